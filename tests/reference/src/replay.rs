@@ -1,0 +1,151 @@
+//! The final groups, which a Rust plan does not list: its own steps, rows and merge list
+//! played once more over plain lists of members.
+
+use crate::component_plan::{ActiveComponentPlan, ActiveComponentStepKind, ActiveComponentStepRef};
+
+/// Ordered members by component number; empty once joined away or measured out.
+type Components = Vec<Vec<usize>>;
+
+/// The part of the merge list that a row names.
+fn sources(plan: &ActiveComponentPlan, offset: usize, count: usize) -> Result<&[usize], String> {
+    plan.merge_components
+        .get(offset..offset + count)
+        .ok_or_else(|| "a row points past the merge list".to_owned())
+}
+
+fn taken(components: &mut Components, number: usize) -> Result<Vec<usize>, String> {
+    let members = components
+        .get_mut(number)
+        .map(std::mem::take)
+        .unwrap_or_default();
+    if members.is_empty() {
+        Err(format!(
+            "a row joins component {number}, which is not alive"
+        ))
+    } else {
+        Ok(members)
+    }
+}
+
+/// Joins the sources into the first, which has to be the row's component and get the row's width.
+fn join(
+    components: &mut Components,
+    sources: &[usize],
+    component: usize,
+    width: usize,
+) -> Result<(), String> {
+    let mut members = Vec::new();
+    for &source in sources {
+        members.extend(taken(components, source)?);
+    }
+    if sources.first() != Some(&component) || members.len() != width {
+        return Err(format!(
+            "a row of component {component} and width {width} does not fit its sources"
+        ));
+    }
+    components[component] = members;
+    Ok(())
+}
+
+/// Opens the next component, with the one member of its own number.
+fn promote(components: &mut Components, component: usize) -> Result<(), String> {
+    if component != components.len() {
+        return Err(format!(
+            "a promotion opens component {component} out of turn"
+        ));
+    }
+    components.push(vec![component]);
+    Ok(())
+}
+
+fn rotate(
+    plan: &ActiveComponentPlan,
+    components: &mut Components,
+    payload: usize,
+) -> Result<(), String> {
+    let row = plan
+        .rotations
+        .get(payload)
+        .ok_or("a step names no rotation row")?;
+    let sources = sources(plan, row.merge_offset, row.merge_count)?;
+    join(
+        components,
+        sources,
+        row.component,
+        row.kernel.action.nqubits,
+    )
+}
+
+fn measure(
+    plan: &ActiveComponentPlan,
+    components: &mut Components,
+    payload: usize,
+) -> Result<(), String> {
+    let row = plan
+        .measurements
+        .get(payload)
+        .ok_or("a step names no measurement row")?;
+    let sources = sources(plan, row.merge_offset, row.merge_count)?;
+    join(
+        components,
+        sources,
+        row.component,
+        row.kernel.action.nqubits,
+    )?;
+    let members = &mut components[row.component];
+    if row.kernel.pivot >= members.len() {
+        return Err(format!(
+            "a measurement's pivot is outside component {}",
+            row.component
+        ));
+    }
+    members.remove(row.kernel.pivot);
+    if members.is_empty() == row.deactivate_after {
+        Ok(())
+    } else {
+        Err("a deactivation does not fit".to_owned())
+    }
+}
+
+fn play(
+    plan: &ActiveComponentPlan,
+    components: &mut Components,
+    step: &ActiveComponentStepRef,
+) -> Result<(), String> {
+    match step.kind {
+        ActiveComponentStepKind::None | ActiveComponentStepKind::IgnoredGlobalPhase => Ok(()),
+        ActiveComponentStepKind::Rotation => rotate(plan, components, step.payload),
+        ActiveComponentStepKind::Measurement => measure(plan, components, step.payload),
+        ActiveComponentStepKind::Promotion => {
+            let row = plan
+                .promotions
+                .get(step.payload)
+                .ok_or("a step names no promotion row")?;
+            promote(components, row.component)
+        }
+    }
+}
+
+/// The live components in the end, by ascending number. A plan made of unread records has none.
+pub fn groups(plan: &ActiveComponentPlan) -> Result<Vec<Vec<usize>>, String> {
+    if plan.component_count == 0 {
+        return Ok(Vec::new());
+    }
+    let mut components: Components = (0..plan.initial_components)
+        .map(|number| vec![number])
+        .collect();
+    for step in &plan.instruction_steps {
+        play(plan, &mut components, step)?;
+    }
+    if components.len() != plan.component_count {
+        return Err(format!(
+            "{} components replayed, {} counted",
+            components.len(),
+            plan.component_count
+        ));
+    }
+    Ok(components
+        .into_iter()
+        .filter(|members| !members.is_empty())
+        .collect())
+}
