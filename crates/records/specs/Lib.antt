@@ -1,0 +1,3 @@
+pub mod Record
+pub mod Pass
+pub mod Sound
