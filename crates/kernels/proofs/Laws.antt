@@ -1,18 +1,18 @@
 -- Laws of words that the proofs of `bits` and of later crates cite: ones counted over a word's width, the highest bit's bounds, bits past the word,
 -- and the bit pattern of an exact power. Each follows from the library's account of binary digits.
-use mathlib.Core.Path.{_≡_, refl, sym, ap, ap₂, _∙_, subst}
+use mathlib.Core.Path.{_≡_, sym, ap, _∙_, subst}
 use Prim.Native.Nat.{ℕ, zero, suc, _+_, _-_, _*_, _/_, _%_, _^_, _≤_, _<_}
-use native.Mathlib.Nat.{le-antisymm, le-trans, le-of-eq, lt-of-lt-of-le, lt-irrefl, lt-of-not-le, le-of-suc-le-suc, lt-suc-self, div-eq-of-lt, div-one, one-mul, mul-one, pow-suc, pow-zero}
+use native.Mathlib.Nat.{le-antisymm, lt-of-lt-of-le, lt-irrefl, lt-of-not-le, le-of-suc-le-suc, lt-suc-self, div-eq-of-lt, div-one, one-mul}
 use native.Mathlib.Omega.{arith}
-use mathlib.Core.Bool.{Bool, true, false, not}
+use mathlib.Core.Bool.{Bool, false, not}
 use lib.Dec.{T, lt→ltb}
 use lib.Arith.{lt-one}
-use lib.Pow.{pow-pos, pow-mono, pow-lt, pow-add, shr-lt, shl-shr}
+use lib.Pow.{pow-mono, pow-lt, pow-add, shr-lt, shl-shr}
 use lib.Count.{onesIn, ones, ones-step, leadingZeros, leading-top}
 use lib.IntN.{pos}
-use lib.Ieee.{Float, fin, binary64, size, ofBits, toBits, fits, isNan, nanBits}
+use lib.Ieee.{fin, binary64, size, ofBits, toBits, fits, isNan, nanBits}
 use lib.Ieee.Bits.{ofBits-toBits, nanBits-is}
-use lib.Ieee.Digits.{size-lt, size-reaches, size-le}
+use lib.Ieee.Digits.{size-lt, size-le}
 use Rattle.kernels.specs.Bits.{highestBit, bitAt}
 
 -- the ones among the d lowest digits are all the ones of a number of d digits

@@ -1,6 +1,6 @@
 -- What the contracts of the module `bits` say: parity, highest bit, bits by place, powers of two, dimensions. Written from 01, sections 1 and 4.
 use Prim.Native.Nat.{ℕ, _-_, _*_, _/_, _%_, _^_, min}
-use mathlib.Core.Bool.{Bool, true, false, cond}
+use mathlib.Core.Bool.{Bool, false, cond}
 use mathlib.Core.Option.{Option, some, none}
 use lib.Dec.{leb, ltb, eqb}
 use lib.Count.{onesIn, leadingZeros}

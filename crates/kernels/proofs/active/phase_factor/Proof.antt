@@ -1,6 +1,6 @@
 -- `active::phase_factor` meets its contract: each arm has the phase of the remainder that led there, and the last one that of 3.
 use mathlib.Core.Path.{_≡_, sym, ap}
-use Prim.Native.Nat.{ℕ, _%_}
+use Prim.Native.Nat.{_%_}
 use native.Mathlib.Omega.{arith}
 use lib.Ieee.{ofBits, neg}
 use Rattle.kernels.specs.Active.{unitPower}

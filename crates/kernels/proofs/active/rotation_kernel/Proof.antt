@@ -1,6 +1,6 @@
 -- `active::rotation_kernel` meets its contract: the fields of a diagonal kernel stand as first written, and the others are set after the test.
 use borrow.Author.Needs.{needs}
-use borrow.Author.Tests.{eq-eqb, ne-eqb}
+use borrow.Author.Tests.{ne-eqb}
 use Rattle.kernels.proofs.active.rotation_kernel.Statement.{statement}
 use Rattle.kernels.proofs.active.rotation_kernel.Tie as tie
 

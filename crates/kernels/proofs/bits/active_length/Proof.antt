@@ -4,7 +4,7 @@ use Prim.Native.Nat.{ℕ, _*_, _^_, _%_, _<_, _≤_, min}
 use native.Mathlib.Nat.{mod-eq-of-lt, one-mul}
 use native.Mathlib.Omega.{arith}
 use mathlib.Core.Bool.{Bool, cond}
-use mathlib.Core.Option.{Option, some, none}
+use mathlib.Core.Option.{some, none}
 use lib.Pow.{pow-lt}
 use borrow.Author.Needs.{needs}
 use borrow.Author.Tests.{lt-ltb, le-ltb}

@@ -1,6 +1,6 @@
 -- `bits::highest_set_bit` meets its contract: a word that is not 0 has at most 63 leading zeros, and 0 has 64.
 use mathlib.Core.Path.{_≡_, refl, sym, ap}
-use Prim.Native.Nat.{ℕ, _-_, _<_}
+use Prim.Native.Nat.{ℕ, _<_}
 use native.Mathlib.Omega.{arith}
 use lib.Count.{leadingZeros, leading-le}
 use Rattle.kernels.specs.Bits.{highestBit}

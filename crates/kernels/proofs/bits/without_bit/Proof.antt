@@ -1,11 +1,11 @@
 -- `bits::without_bit` meets its contract: a bit is 0 or 1, and where it is 1 its power is at most the word.
 use mathlib.Core.Path.{_≡_, sym, ap, _∙_, subst}
-use Prim.Native.Nat.{ℕ, _-_, _*_, _/_, _%_, _^_, _<_, _≤_}
+use Prim.Native.Nat.{ℕ, _-_, _*_, _%_, _^_, _<_, _≤_}
 use native.Mathlib.Nat.{mod-eq-of-lt, one-mul}
 use native.Mathlib.Omega.{arith}
 use lib.Pow.{pow-lt}
 use borrow.Author.Needs.{needs}
-use Rattle.kernels.specs.Bits.{bitAt, withoutBit}
+use Rattle.kernels.specs.Bits.{bitAt}
 use Rattle.kernels.proofs.Laws.{bit-below, bit-power}
 use Rattle.kernels.proofs.bits.without_bit.Statement.{statement}
 use Rattle.kernels.proofs.bits.without_bit.Tie as tie
