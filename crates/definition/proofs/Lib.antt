@@ -1,0 +1,16 @@
+pub mod Circuits
+pub mod Counting
+pub mod Steps
+pub mod Joins
+pub mod LocalBits
+pub mod Classes
+pub mod Invariant
+pub mod Live
+pub mod Growth
+pub mod Tracking
+pub mod Replay
+pub mod Longest
+pub mod Accepted
+pub mod Works
+pub mod Room
+pub mod States

@@ -1,0 +1,59 @@
+-- Laws that hold of every state the walk reaches and of every plan: works are numbers or infinite, never negative; the states that the Rust guards against
+-- never occur; and the outputs fit the lent buffers.
+use Prim.Native.Nat.{ℕ, _+_, _*_, _^_, _≤_, _<_}
+use mathlib.Core.List.{[]}
+use mathlib.Core.Bool.{Bool}
+use lib.IntN.{ℤ}
+use lib.ListN.{length, getD}
+use lib.Ieee.{Float, inf, fin}
+use Rattle.definition.specs.Components.{membersOf, sizeOf}
+use Rattle.definition.specs.Walk.{Walk, Written, joinOf}
+use Rattle.definition.specs.Plan.{Plan, Lengths}
+use Rattle.definition.specs.Connectivity.{Member}
+
+-- neither a NaN nor negative; 0 is +0
+pub data Fair : Float → Type 0 where
+  infinite : Fair (inf Bool.false)
+  number : (m : ℕ) (e : ℤ) → Fair (fin Bool.false m e)
+
+-- the two works that the choice of section 6 compares
+pub record FairWorks (w : Walk) : Type 0 where
+  pub dense : Fair (w .denseWork)
+  pub component : Fair (w .componentWork)
+
+-- What the Rust guards against and 01 gives no number: a state where any of these fails is never met. An active coordinate has a number that was given out
+-- (the Rust's "invalid active coordinate") and stands in a component ("active coordinate without a component"); a component's members, joined or not, are
+-- active ("tried to remap an inactive coordinate"); every source of a join, the target too, has members ("source is inactive", "target is inactive").
+pub record Whole (w : Walk) : Type 0 where
+  pub coordinate-valid : (a : ℕ) → Member a (w .order) → a < length (w .components)
+  pub coordinate-held : (a : ℕ) → Member a (w .order) → (c : ℕ) × (c < length (w .components)) × Member a (membersOf (w .components) c)
+  pub member-active : (a c : ℕ) → Member a (membersOf (w .components) c) → Member a (w .order)
+  pub joined-active : (x z a : ℕ) → Member a (joinOf x z w .members) → Member a (w .order)
+  pub source-live : (x z c : ℕ) → Member c (joinOf x z w .sources) → (c < length (w .components)) × (0 < sizeOf (w .components) c)
+  pub target-given : (x z : ℕ) → 0 < length (w .order) → Member (joinOf x z w .component) (joinOf x z w .sources)
+
+-- every row's component had fewer members than the limit when it was joined: word 3 of a row is its local width
+pub record RowsBelow (limit : ℕ) (o : Written) : Type 0 where
+  pub rotation : (i : ℕ) → i < length (o .rotations) → getD (getD (o .rotations) i []) 3 0 < limit
+  pub measurement : (i : ℕ) → i < length (o .measurements) → getD (getD (o .measurements) i []) 3 0 < limit
+
+-- what the outputs of a plan take, with n records: never more than refusal 3 asks for, and a peak that a word holds
+pub record Fits (p : Plan) (n : ℕ) : Type 0 where
+  pub steps : length (p .steps) ≤ 2 * n
+  pub merges : length (p .merges) ≤ n + 511
+  pub sizes : length (p .sizes) ≤ 512
+  pub rotations : length (p .rotations) ≤ 21 * n
+  pub promotions : length (p .promotions) ≤ n
+  pub measurements : length (p .measurements) ≤ 19 * n
+  pub groups : length (p .groups) ≤ 1024
+  pub peak : p .peak < 2 ^ 63
+
+-- so the outputs fit the lent buffers
+pub record FitsIn (p : Plan) (l : Lengths) : Type 0 where
+  pub steps : length (p .steps) ≤ l .steps
+  pub merges : length (p .merges) ≤ l .merges
+  pub sizes : length (p .sizes) ≤ l .sizes
+  pub rotations : length (p .rotations) ≤ l .rotations
+  pub promotions : length (p .promotions) ≤ l .promotions
+  pub measurements : length (p .measurements) ≤ l .measurements
+  pub groups : length (p .groups) ≤ l .groups

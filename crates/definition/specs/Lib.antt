@@ -1,0 +1,7 @@
+pub mod Lists
+pub mod Components
+pub mod Walk
+pub mod Plan
+pub mod Circuits
+pub mod Connectivity
+pub mod Laws
