@@ -11,6 +11,9 @@ pub mod Tracking
 pub mod Replay
 pub mod Longest
 pub mod Accepted
+pub mod Claims
+pub mod Connected
+pub mod Worked
 pub mod Works
 pub mod Room
 pub mod States

@@ -1,0 +1,191 @@
+-- Demand 3: for every accepted program that was read, every list of records and every m, all claims of 01, section 5, hold of its plan. The walk's run is cut
+-- after m records; there the invariant of the walk and the agreement of the replay with it give each claim.
+use mathlib.Core.Path.{_≡_, refl, sym, ap, ap₂, _∙_, subst}
+use mathlib.Core.Logic.{_↔_}
+use mathlib.Core.Bool.{Bool, false, not, _||_}
+use mathlib.Core.List.{List, [], _∷_, map}
+use Prim.Native.Nat.{ℕ, suc, _+_, _-_, _*_, _^_, _≤_, _<_, min, max}
+use native.Mathlib.Omega.{arith}
+use lib.ListN.{length, getD, take, drop, length-take}
+use lib.Seq.{drop-cons}
+use borrow.Author.Tests.{eq-eqb, le-ltb}
+use Rattle.records.specs.Record.{instructionsOf}
+use Rattle.records.specs.declared.Head.{Head}
+use Rattle.records.specs.declared.Instruction.{Instruction}
+use Rattle.records.specs.declared.Instruction.the-variants.{DormantBranch}
+use Rattle.definition.specs.Lists.{numbersFrom, total, concat}
+use Rattle.definition.specs.Components.{allocatedFor}
+use Rattle.definition.specs.Walk.{Walk, start}
+use Rattle.definition.specs.Plan.{Lengths, Plan, planned, unread, planFrom, planOf}
+use Rattle.definition.specs.Connectivity.{occurrences, Member, NoRepeats, Rearranged, greatest, Roll, rollStart, rollAfter, Linked, liveAt, moments, binsAfter, binMembers, SameBin, longestOf, JoinClaim, isPromotion, isMeasurement, Connected}
+use Rattle.definition.proofs.Steps.{Run, more, run-split}
+use Rattle.definition.proofs.Classes.{class-linked}
+use Rattle.definition.proofs.Live.{rearranged-length}
+use Rattle.definition.proofs.Invariant.{holds-start, listed-below}
+use Rattle.definition.proofs.Growth.{AllOf, grown-refl, run-grown, run-steps, run-rotations, run-measurements, start-wide}
+use Rattle.definition.proofs.Tracking.{Tracked, live-same, start-tracked, run-tracked, run-peak}
+use Rattle.definition.proofs.Replay.{BinsAre, run-bins, start-bins}
+use Rattle.definition.proofs.Longest.{start-long}
+use Rattle.definition.proofs.Claims.{map-same, concat-numbers, map-entries, start-order, run-count, next-grows, step-claim, run-long, start-is-long, peak-total}
+use Rattle.definition.proofs.Room.{plan-fits}
+use Rattle.definition.proofs.Accepted.{accepted}
+
+start-peak : (k : ℕ) → start k .peak ≡ liveAt (rollStart k)
+unfolding start
+start-peak k = live-same (map (λ c. c ∷ []) (numbersFrom 0 k)) (rollStart k) (holds-start k)
+
+module _ (limit k densePeak : ℕ) (is : List Instruction) (u : Walk) (run : Run limit (start k) is u) where
+  abbrev plan : Plan
+  plan = planFrom k densePeak u
+
+  rotations-wide : AllOf 21 (u .written .rotations)
+  rotations-wide = run-rotations run (start-wide k 21 .0)
+
+  measurements-wide : AllOf 19 (u .written .measurements)
+  measurements-wide = run-measurements run (start-wide k 19 .1)
+
+  abbrev Follows : ℕ → Walk → Type 0
+  Follows m w = BinsAre k densePeak u rotations-wide measurements-wide m w
+
+  start-steps : length (start k .written .steps) ≡ 2 * 0
+  unfolding start
+  start-steps = refl
+
+  -- the walk after m records
+  record At (m : ℕ) : Type 0 where
+    state : Walk
+    front : Run limit (start k) (take m is) state
+    back : Run limit state (drop m is) u
+    tracked : Tracked state (rollAfter (rollStart k) (take m is))
+    follows : Follows m state
+    steps-same : length (state .written .steps) ≡ 2 * m
+    components-within : length (state .components) ≤ length (u .components)
+
+  cut : (m : ℕ) → m ≤ length is → At m
+  cut m h =
+      let parts = run-split m run in
+      let taken : length (take m is) ≡ m = let e = length-take m is in omega arith in
+      let t = run-tracked (rollStart k) (parts .1) (start-tracked k) in
+      let last = run-tracked (rollAfter (rollStart k) (take m is)) (parts .2) t in
+      let bins = run-bins k densePeak u rotations-wide measurements-wide 0 (rollStart k) (parts .1) (run-grown (parts .2)) start-steps (start-tracked k)
+      (start-bins k densePeak u rotations-wide measurements-wide) in
+      let steps = run-steps (parts .1) in
+      let zero-steps = start-steps in
+      let grows = next-grows (rollAfter (rollStart k) (take m is)) (drop m is) in
+      let a = t .holds .next-same in
+      let b = last .holds .next-same in record {
+        state = parts .0;
+        front = parts .1;
+        back = parts .2;
+        tracked = t;
+        follows = λ i. let e : 0 + length (take m is) ≡ m = omega arith in ap (λ (n : ℕ). binsAfter plan n i) (sym e) ∙ bins i;
+        steps-same = omega arith;
+        components-within = omega arith;
+      }
+
+  module _ (m : ℕ) (at : At m) where
+    abbrev roll : Roll
+    roll = rollAfter (rollStart k) (take m is)
+
+    abbrev components : List (List ℕ)
+    components = at .state .components
+
+    -- the bins' members are the components', one after the other
+    members-are : binMembers plan (binsAfter plan m) ≡ concat components
+    unfolding planFrom
+    members-are =
+        ap concat (map-same (binsAfter plan m) (λ i. getD components i []) (at .follows) (numbersFrom 0 (length (u .components))))
+        ∙ concat-numbers components (length (u .components)) (at .components-within)
+
+    rearranged : Rearranged (binMembers plan (binsAfter plan m)) (roll .order)
+    rearranged a = ap (occurrences a) members-are ∙ at .tracked .holds .held a
+
+    once : NoRepeats (binMembers plan (binsAfter plan m))
+    once a = let e = rearranged a in let o = at .tracked .holds .once a in omega arith
+
+    counted : length (binMembers plan (binsAfter plan m)) + total (map isMeasurement (take m is)) ≡ k + total (map isPromotion (take m is))
+    counted =
+        let e = rearranged-length (binMembers plan (binsAfter plan m)) (roll .order) rearranged in
+        let o = ap length (at .tracked .order-same) in
+        let c = run-count (at .front) in
+        let s = start-order k in omega arith
+
+    same-bins : (a b : ℕ) → Member a (roll .order) → Member b (roll .order) → SameBin plan (binsAfter plan m) a b ↔ Linked (roll .links) a b
+    unfolding planFrom
+    same-bins a b ma mb =
+        let h = at .tracked .holds in
+        let c = h .classes a b ma mb in
+        let l = class-linked (roll .links) a b in (
+          λ s. l .0 (c .0 (s .bin, subst (λ (xs : List ℕ). Member a xs) (at .follows (s .bin)) (s .first), subst (λ (xs : List ℕ). Member b xs) (at .follows (s .bin)) (s .second))),
+          λ x. let s = c .1 (l .1 x) in record {
+            bin = s .0;
+            listed = let i = listed-below components (s .0) a (s .1) in let w = at .components-within in omega arith;
+            first = subst (λ (xs : List ℕ). Member a xs) (sym (at .follows (s .0))) (s .1);
+            second = subst (λ (xs : List ℕ). Member b xs) (sym (at .follows (s .0))) (s .2);
+          },
+        )
+
+    claims : m < length is → JoinClaim plan m roll (getD is m DormantBranch)
+    claims h = first (drop m is) (at .back) (drop-cons is m DormantBranch h)
+      where
+        first : (rest : List Instruction) → Run limit (at .state) rest u → rest ≡ getD is m DormantBranch ∷ drop (suc m) is → JoinClaim plan m roll (getD is m DormantBranch)
+        first [] r e = let z : _≡_ {A = ℕ} 0 1 = cc in absurd (omega arith)
+        first (i ∷ rest) r e =
+            let same : i ≡ getD is m DormantBranch = cc in
+            subst (λ (j : Instruction). JoinClaim plan m roll j) same (of-run i rest r)
+          where
+            of-run : (i : Instruction) (rest : List Instruction) → Run limit (at .state) (i ∷ rest) u → JoinClaim plan m roll i
+            of-run i rest (more s later) =
+                step-claim k densePeak u rotations-wide measurements-wide m roll s (at .steps-same) (run-grown later) (at .tracked) (at .follows)
+
+  -- the plan's peak is the greatest live dimension over all moments
+  peak-is : plan .peak ≡ greatest (map liveAt (rollStart k ∷ moments (rollStart k) is))
+  unfolding planFrom
+  peak-is = run-peak (rollStart k) run (start-tracked k) ∙ ap (λ (n : ℕ). max n (greatest (map liveAt (moments (rollStart k) is)))) (start-peak k)
+
+  -- the longest sizes are the greatest lengths of the bins
+  longest-is : (c : ℕ) → longestOf plan (length is) c ≡ getD (u .longest) c 0
+  longest-is c =
+      let e : length is ≡ 0 + length is = omega arith in
+      ap (λ (n : ℕ). longestOf plan n c) e
+      ∙ run-long k densePeak u rotations-wide measurements-wide 0 (rollStart k) run (grown-refl (u .written)) start-steps (start-tracked k)
+      (start-bins k densePeak u rotations-wide measurements-wide) (start-is-long k)
+      (λ d. ap length (start-bins k densePeak u rotations-wide measurements-wide d) ∙ sym (start-long k d)) c
+
+  allocated-is : plan .allocated ≡ min (2 ^ 64 - 1) (total (map (λ c. 2 ^ longestOf plan (length is) c) (numbersFrom 0 (plan .componentCount))))
+  unfolding planFrom allocatedFor
+  allocated-is =
+      let last = run-tracked (rollStart k) run (start-tracked k) in
+      ap (λ (l : List ℕ). min (2 ^ 64 - 1) (total l))
+      (sym (map-same (λ c. 2 ^ longestOf plan (length is) c) (λ c. 2 ^ getD (u .longest) c 0) (λ c. ap (λ (n : ℕ). 2 ^ n) (longest-is c)) (numbersFrom 0 (length (u .components)))
+      ∙ map-entries (λ n. 2 ^ n) (u .longest) (length (u .components)) (last .longest-same)))
+
+  peak-below : plan .peak < 2 ^ 63 → plan .peak ≤ plan .allocated
+  unfolding planFrom allocatedFor
+  peak-below small = let e = peak-total k run in omega arith
+
+  pub run-connected : plan .peak < 2 ^ 63 → (m : ℕ) → m ≤ length is → Connected k is plan m
+  run-connected small m h =
+      let at = cut m h in record {
+        rearrangement = rearranged m at;
+        no-repeats = once m at;
+        count = counted m at;
+        same-bin = same-bins m at;
+        joins = claims m at;
+        peak = peak-is;
+        allocated = allocated-is;
+        peak-fits = peak-below small;
+      }
+
+-- a head with max_k of at least 8 and no expectation values has its records read
+read-head : (h : Head) → 8 ≤ h .«max_k» → h .nexpvals ≡ 0 → unread h ≡ false
+read-head h wide none = ap₂ (λ (a b : Bool). a || not b) (le-ltb (h .«max_k») 8 wide) (eq-eqb (h .nexpvals) 0 none)
+
+-- Demand 3
+pub connected : (limit : ℕ) (h : Head) (ws : List ℕ) (l : Lengths) (p : Plan) → planOf limit h ws l ≡ planned p → 8 ≤ h .«max_k» → h .nexpvals ≡ 0
+    → (m : ℕ) → m ≤ length (instructionsOf ws) → Connected (h .«initial_k») (instructionsOf ws) p m
+connected limit h ws l p e wide none m within =
+    let a = accepted limit h ws l p (read-head h wide none) e in
+    let small = subst (λ (q : Plan). q .peak < 2 ^ 63) (a .plan-is) (plan-fits limit h ws l p e .peak) in
+    subst (λ (q : Plan). Connected (h .«initial_k») (instructionsOf ws) q m) (sym (a .plan-is))
+    (run-connected limit (h .«initial_k») (a .densePeak) (instructionsOf ws) (a .last) (a .run) small m within)
