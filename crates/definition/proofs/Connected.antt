@@ -27,6 +27,7 @@ use Rattle.definition.proofs.Tracking.{Tracked, live-same, start-tracke
 use Rattle.definition.proofs.Replay.{BinsAre, run-bins, start-bins}
 use Rattle.definition.proofs.Longest.{start-long}
 use Rattle.definition.proofs.Claims.{map-same, concat-numbers, map-entries, start-order, run-count, next-grows, step-claim, run-long, start-is-long, peak-total}
+use Rattle.definition.proofs.Gathering.{all-gather}
 use Rattle.definition.proofs.Room.{plan-fits}
 use Rattle.definition.proofs.Accepted.{accepted}
 
@@ -172,6 +173,7 @@ module _ (limit k densePeak : ℕ) (is : List Instruction) (u : Walk) (run : Run
         count = counted m at;
         same-bin = same-bins m at;
         joins = claims m at;
+        gathered = all-gather k run (start-tracked k);
         peak = peak-is;
         allocated = allocated-is;
         peak-fits = peak-below small;

@@ -13,9 +13,10 @@ use borrow.Author.Tests.{eq-eqb, ne-eqb}
 use Rattle.definition.specs.Lists.{removeAt, numbersFrom, concat}
 use Rattle.definition.specs.Components.{support, orFirst, meeting, touched, sourcesOf, joined}
 use Rattle.definition.specs.Connectivity.{occurrences, Member, NoRepeats, Rearranged, Roll, rollStart, supportOf, merged, classOf, joinBins, poured}
-use Rattle.definition.proofs.Counting.{same-or-not, member-or-not, one-here, none-here, member-head, member-cons, occurrences-append, occurrences-concat-append, occurrences-set, occurrences-two, occurrences-listed, member-listed, occurrences-removeAt, numbers-once, numbers-bounds, length-numbers}
+use Rattle.definition.proofs.Counting.{same-or-not, member-or-not, one-here, none-here, member-head, member-cons, occurrences-append, occurrences-concat-append, occurrences-set, occurrences-listed, member-listed, occurrences-removeAt, numbers-once, numbers-bounds, length-numbers}
 use Rattle.definition.proofs.Joins.{meet-shares, shares-meet, meeting-meets, meets-meeting, meeting-once, sources-same, length-joined, joined-is, joined-count, gathered-poured, join-cases, join-target, gathered-from, gathered-holds}
 use Rattle.definition.proofs.LocalBits.{support-same, support-member}
+use Rattle.definition.proofs.Live as Live
 use Rattle.definition.proofs.Live.{SameList}
 use Rattle.definition.proofs.Classes.{Touches, merged-same, class-append, Below, class-below, class-above}
 
@@ -35,11 +36,11 @@ listed-below (x ∷ cs) (suc c) d m = let r = listed-below cs c d m in omega ari
 
 -- an active coordinate stands in one component only
 pub one-list : (cs : List (List ℕ)) (r : Roll) → Holds cs r → (a c d : ℕ) → Member a (getD cs c []) → Member a (getD cs d []) → c ≡ d
-one-list cs r h a c d m n =
-    ⊎-elim
-    (λ e. e)
-    (λ ne. let two = occurrences-two a cs c d ne in let o = h .once a in let k = h .held a in absurd (omega arith))
-    (same-or-not c d)
+one-list cs r h a c d m n = Live.one-list a cs (λ b. let o = h .once b in let k = h .held b in omega arith) c d m n
+
+-- an active coordinate's class is below the next number
+pub class-in : (cs : List (List ℕ)) (r : Roll) → Holds cs r → (a : ℕ) → Member a (r .order) → classOf (r .links) a < r .next
+class-in cs r h a m = class-below (r .links) (r .next) (h .links-below) a (h .below a m)
 
 -- what a component holds is active
 pub listed-active : (cs : List (List ℕ)) (r : Roll) → Holds cs r → (a c : ℕ) → Member a (getD cs c []) → Member a (r .order)
@@ -346,9 +347,6 @@ holds-promote cs r h = record {
     new-class : (a : ℕ) → a ≡ r .next → classOf (r .links) a ≡ r .next
     new-class a e = ap (classOf (r .links)) e ∙ class-above (r .links) (r .next) (h .links-below) (r .next) (omega arith)
 
-    old-class : (a : ℕ) → Member a (r .order) → classOf (r .links) a < r .next
-    old-class a m = class-below (r .links) (r .next) (h .links-below) a (h .below a m)
-
     here : (a : ℕ) → a ≡ r .next → Member a (getD (cs ++ ((length cs ∷ []) ∷ [])) (length cs) [])
     here a e = subst (λ (l : List ℕ). Member a l) (sym (getD-append-seam cs (length cs ∷ []) [] [])) (subst (λ (k : ℕ). Member k (length cs ∷ [])) (h .next-same ∙ sym e) (member-head (length cs) []))
 
@@ -371,11 +369,11 @@ holds-promote cs r h = record {
     cases a b (inl e) (inl d) = (λ s. new-class a e ∙ sym (new-class b d), λ q. (length cs, here a e, here b d))
     cases a b (inl e) (inr m) = (
       λ s. absurd (never a b e m s),
-      λ q. absurd (let p = new-class a e in let o = old-class b m in omega arith),
+      λ q. absurd (let p = new-class a e in let o = class-in cs r h b m in omega arith),
     )
     cases a b (inr m) (inl d) = (
       λ s. absurd (never b a d m (s .0, s .2, s .1)),
-      λ q. absurd (let p = new-class b d in let o = old-class a m in omega arith),
+      λ q. absurd (let p = new-class b d in let o = class-in cs r h a m in omega arith),
     )
     cases a b (inr m) (inr k) = (
       λ s. h .classes a b m k .0 (s .0, snoc-old cs (length cs) (s .0) a (old-new a m) (s .1), snoc-old cs (length cs) (s .0) b (old-new b k) (s .2)),

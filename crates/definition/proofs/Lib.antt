@@ -12,6 +12,7 @@ pub mod Replay
 pub mod Longest
 pub mod Accepted
 pub mod Claims
+pub mod Gathering
 pub mod Connected
 pub mod Worked
 pub mod Works

@@ -6,7 +6,7 @@ use mathlib.Core.Logic.{⊎-elim}
 use mathlib.Core.Bool.{Bool, true, false, cond, _||_}
 use mathlib.Core.Option.{Option, some, none}
 use mathlib.Core.List.{List, [], _∷_, _++_, map}
-use Prim.Native.Nat.{ℕ, zero, suc, _+_, _-_, _*_, _/_, _^_, _≤_, _<_, max}
+use Prim.Native.Nat.{ℕ, zero, suc, _+_, _-_, _*_, _/_, _^_, _≤_, _<_}
 use native.Mathlib.Nat.{mul-le-mul-left, mul-le-mul-right, eq-zero-or-pos}
 use native.Mathlib.Omega.{arith}
 use lib.Dec.{eqb, ltb}
@@ -34,7 +34,7 @@ use Rattle.definition.proofs.Steps.{cond-yes, cond-no, Stepped, ignored
 use Rattle.definition.proofs.Joins.{length-emptied, length-joined, emptied-out, gathered-holds}
 use Rattle.definition.proofs.Live.{rearranged-length}
 use Rattle.definition.proofs.Invariant.{Holds, sources-once, source-below, source-holds}
-use Rattle.definition.proofs.Tracking.{Tracked, rollOf, tracked-here, tracked-join, target-source, target-below, target-members, start-tracked, step-tracked, run-tracked}
+use Rattle.definition.proofs.Tracking.{join-peak-is, Tracked, rollOf, tracked-here, tracked-join, target-source, target-below, target-members, start-tracked, step-tracked, run-tracked}
 use Rattle.definition.proofs.Accepted.{Accepted, accepted}
 use Rattle.definition.proofs.Growth.{rowCount, run-rows, run-steps, run-rotations, run-measurements, start-wide, length-concat}
 
@@ -201,10 +201,6 @@ unfolding joinOf
 join-size x z w = length-joined (w .components) (joinOf x z w .sources)
 
 -- its peak counts the joined components
-join-peak : (x z : ℕ) (w : Walk) → joinOf x z w .peak ≡ max (w .peak) (liveDimension (joinOf x z w .components))
-unfolding joinOf
-join-peak x z w = refl
-
 module _ (w : Walk) (r : Roll) (t : Tracked w r) (x z : ℕ) (active : 0 < length (w .order)) where
   -- a source has members
   source-filled : (c : ℕ) → Member c (joinOf x z w .sources) → filled (getD (w .components) c []) ≡ 1
@@ -249,7 +245,7 @@ module _ (w : Walk) (r : Roll) (t : Tracked w r) (x z : ℕ) (active : 0 < lengt
       let left = join-occupied in
       let target = join-some in
       let live = join-live width wide narrow in
-      let most = join-peak x z w in
+      let most = join-peak-is x z w in
       record { size = same; merges = omega (arith, p .merges); spare = omega (arith, p .merges); peak = omega (arith, p .peak) }
 
 -- ---- what every step keeps

@@ -37,7 +37,7 @@ cond-yes t x y e = ap (λ (b : Bool). cond b x y) e
 pub cond-no : {A : Type 0} (t : Bool) (x y : A) → t ≡ false → cond t x y ≡ y
 cond-no t x y e = ap (λ (b : Bool). cond b x y) e
 
-given-same : {v w : Walk} → _≡_ {A = Answer Walk} (given v) (given w) → v ≡ w
+pub given-same : {A : Type 0} {x y : A} → _≡_ {A = Answer A} (given x) (given y) → x ≡ y
 given-same e = cc
 
 -- a dimension was given: the size is below the limit

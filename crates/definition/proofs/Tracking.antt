@@ -21,17 +21,14 @@ use Rattle.definition.specs.Components.{support, touched, sourcesOf, joi
 use Rattle.definition.specs.Walk.{Walk, joinOf, localAction, start, noStep, ignoredStep, promotionStep, rotationStep, measurementStep}
 use Rattle.definition.specs.Connectivity.{Member, greatest, Roll, rollStart, rollStep, rollAfter, withLinks, advanced, supportOf, merged, classOf, liveAt, moments, momentsOf}
 use Rattle.definition.proofs.Counting.{place-below, place-holds, member-head}
-use Rattle.definition.proofs.Steps.{Stepped, ignored, rotated, promoted, measured, recorded, detected, expected, branched, Run, done, more}
+use Rattle.definition.proofs.Steps.{given-same, Stepped, ignored, rotated, promoted, measured, recorded, detected, expected, branched, Run, done, more}
 use Rattle.definition.proofs.Joins.{length-joined, gathered-poured, join-target}
 use Rattle.definition.proofs.LocalBits.{support-member}
-use Rattle.definition.proofs.Classes.{class-below, class-append}
+use Rattle.definition.proofs.Classes.{class-append}
 use Rattle.definition.proofs.Live.{live-is}
-use Rattle.definition.proofs.Invariant.{anchored-some, anchored-member, active-listed, holds-source, source-below, after-join, Holds, holds-start, holds-join, holds-promote, holds-remove}
+use Rattle.definition.proofs.Invariant.{class-in, anchored-some, anchored-member, active-listed, holds-source, source-below, after-join, Holds, holds-start, holds-join, holds-promote, holds-remove}
 
 -- ---- what a kernel keeps of what it was made from
-
-given-inj : {A : Type 0} {x y : A} → _≡_ {A = Answer A} (given x) (given y) → x ≡ y
-given-inj e = cc
 
 dimension-given : {A : Type 0} (d : Option ℕ) (f : ℕ → Answer A) (k : A) → ofDimension d f ≡ given k → (n : ℕ) × (f n ≡ given k)
 dimension-given none f k e = let z : _≡_ {A = ℕ} 0 1 = cc in absurd (omega arith)
@@ -41,7 +38,7 @@ pub rotation-action : (limit : ℕ) (a : ActivePauliAction) (p : ℕ) (angle sin
     → rotation limit a p angle sine cosine ≡ given k → k .action ≡ a
 rotation-action limit a p angle sine cosine k e =
     let g = dimension-given (dimension limit (a .nqubits)) (λ n. given (rotationKernel n a p angle sine cosine)) k e in
-    sym (ap (λ (q : PrecomputedActivePauliRotationKernel). q .action) (given-inj (g .1)))
+    sym (ap (λ (q : PrecomputedActivePauliRotationKernel). q .action) (given-same (g .1)))
 
 -- a kernel keeps the action and the pivot
 abbrev Keeps : ActivePauliAction → ℕ → Answer PrecomputedActivePauliMeasurementKernel → Type 0
@@ -56,8 +53,8 @@ keeps-refused a pivot n k e = let z : _≡_ {A = ℕ} 0 1 = cc in absurd (omega 
 
 keeps-given : (a : ActivePauliAction) (n pivot : ℕ) (diag : Bool) (bit rest : ℕ) → Keeps a pivot (given (measurementKernel n a pivot diag bit rest))
 keeps-given a n pivot diag bit rest k e = (
-  sym (ap (λ (q : PrecomputedActivePauliMeasurementKernel). q .action) (given-inj e)),
-  sym (ap (λ (q : PrecomputedActivePauliMeasurementKernel). q .pivot) (given-inj e)),
+  sym (ap (λ (q : PrecomputedActivePauliMeasurementKernel). q .action) (given-same e)),
+  sym (ap (λ (q : PrecomputedActivePauliMeasurementKernel). q .pivot) (given-same e)),
 )
 
 pub measurement-keeps : (limit : ℕ) (a : ActivePauliAction) (p pivot : ℕ) → Keeps a pivot (measurement limit a p pivot)
@@ -79,7 +76,7 @@ pub record Tracked (w : Walk) (r : Roll) : Type 0 where
 
 -- the live dimension from the components is that from the instructions
 pub live-same : (cs : List (List ℕ)) (r : Roll) → Holds cs r → liveDimension cs ≡ liveAt r
-live-same cs r h = live-is r cs (h .held) (h .once) (λ a m. class-below (r .links) (r .next) (h .links-below) a (h .below a m)) (h .classes)
+live-same cs r h = live-is r cs (h .held) (h .once) (class-in cs r h) (h .classes)
 
 -- ---- a join, in the walk
 
@@ -141,7 +138,7 @@ join-peak : (x z : ℕ) (w : Walk) → liveDimension (joinOf x z w .components) 
 unfolding joinOf
 join-peak x z w = omega arith
 
-join-peak-is : (x z : ℕ) (w : Walk) → joinOf x z w .peak ≡ max (w .peak) (liveDimension (joinOf x z w .components))
+pub join-peak-is : (x z : ℕ) (w : Walk) → joinOf x z w .peak ≡ max (w .peak) (liveDimension (joinOf x z w .components))
 unfolding joinOf
 join-peak-is x z w = refl
 
@@ -154,7 +151,7 @@ unfolding supportOf
 no-links x z order = refl
 
 -- a link of nobody changes nothing
-holds-unlinked : (cs : List (List ℕ)) (r : Roll) (x z : ℕ) → Holds cs r → Holds cs (record { order = r .order; next = r .next; links = r .links ++ (supportOf 0 x z (r .order) ∷ []) })
+pub holds-unlinked : (cs : List (List ℕ)) (r : Roll) (x z : ℕ) → Holds cs r → Holds cs (record { order = r .order; next = r .next; links = r .links ++ (supportOf 0 x z (r .order) ∷ []) })
 holds-unlinked cs r x z h = record {
   next-same = h .next-same;
   held = h .held;
@@ -176,7 +173,7 @@ holds-unlinked cs r x z h = record {
         let z : Member a [] = subst (λ (l : List ℕ). Member a l) (List·Memᴰ·eq-of-singleton m ∙ no-links x z (r .order)) n in absurd (omega arith)
 
 -- a measurement removes the coordinate at the pivot from the order and from the target
-tracked-removal : (w : Walk) (r : Roll) (width x z pivot local : ℕ) → Tracked w r → width ≡ length (w .order) → 0 < length (w .order) → pivot < length (w .order)
+pub tracked-removal : (w : Walk) (r : Roll) (width x z pivot local : ℕ) → Tracked w r → width ≡ length (w .order) → 0 < length (w .order) → pivot < length (w .order)
     → Member (getD (w .order) pivot 0) (joinOf x z w .members) → local ≡ placeOf (getD (w .order) pivot 0) (joinOf x z w .members)
     → Holds (set (joinOf x z w .components) (joinOf x z w .component) (removeAt local (joinOf x z w .members)))
     (record { order = removeAt pivot (r .order); next = r .next; links = r .links ++ (supportOf width x z (r .order) ∷ []) })

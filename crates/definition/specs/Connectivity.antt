@@ -114,6 +114,13 @@ unfoldable pub liveAt : Roll → ℕ
 unfolding setsOf
 liveAt r = total (map amplitudes (setsOf r))
 
+-- the sets of a moment hold each entry of its order as often as the order does, and two entries stand in one set exactly when a chain joins them
+pub record Gathers (r : Roll) : Type 0 where
+  pub whole : Rearranged (concat (setsOf r)) (r .order)
+  pub together :
+      (a b : ℕ) → Member a (r .order) → Member b (r .order)
+      → ((i : ℕ) × Member a (getD (setsOf r) i []) × Member b (getD (setsOf r) i [])) ↔ Linked (r .links) a b
+
 -- "after each join (its links counted, the pivot still on the roll), promotion and removal"
 unfoldable pub momentsOf : Roll → Instruction → List Roll
 unfolding withLinks advanced
@@ -277,6 +284,7 @@ pub record Connected (k : ℕ) (is : List Instruction) (p : Plan) (m : ℕ) : Ty
       (a b : ℕ) → Member a (rollAfter (rollStart k) (take m is) .order) → Member b (rollAfter (rollStart k) (take m is) .order)
       → SameBin p (binsAfter p m) a b ↔ Linked (rollAfter (rollStart k) (take m is) .links) a b
   pub joins : m < length is → JoinClaim p m (rollAfter (rollStart k) (take m is)) (getD is m DormantBranch)
+  pub gathered : (r : Roll) → List·Memᴰ r (rollStart k ∷ moments (rollStart k) is) → Gathers r
   pub peak : p .peak ≡ greatest (map liveAt (rollStart k ∷ moments (rollStart k) is))
   pub allocated : p .allocated ≡ min (2 ^ 64 - 1) (total (map (λ i. 2 ^ longestOf p (length is) i) (numbersFrom 0 (p .componentCount))))
   pub peak-fits : p .peak ≤ p .allocated

@@ -72,9 +72,12 @@ fn step(step: &ActiveComponentStepRef) -> [Word; 2] {
     [Number(kind), number(step.payload)]
 }
 
-/// The words from the local width to the overlap, which both kinds of row have.
-fn action(action: &ActivePauliAction) -> Vec<Word> {
+/// The words from the component to the overlap, which both kinds of row have.
+fn row_head(component: usize, offset: usize, count: usize, action: &ActivePauliAction) -> Vec<Word> {
     let mut words = vec![
+        number(component),
+        number(offset),
+        number(count),
         number(action.nqubits),
         Number(action.xmask),
         Number(action.zmask),
@@ -87,12 +90,7 @@ fn action(action: &ActivePauliAction) -> Vec<Word> {
 
 fn rotation(row: &ActiveComponentRotationStep) -> Vec<Word> {
     let kernel = &row.kernel;
-    let mut words = vec![
-        number(row.component),
-        number(row.merge_offset),
-        number(row.merge_count),
-    ];
-    words.extend(action(&kernel.action));
+    let mut words = row_head(row.component, row.merge_offset, row.merge_count, &kernel.action);
     words.extend([
         flag(kernel.is_diagonal),
         flag(kernel.uniform_imag_pairs),
@@ -109,12 +107,7 @@ fn rotation(row: &ActiveComponentRotationStep) -> Vec<Word> {
 
 fn measurement(row: &ActiveComponentMeasurementStep) -> Vec<Word> {
     let kernel = &row.kernel;
-    let mut words = vec![
-        number(row.component),
-        number(row.merge_offset),
-        number(row.merge_count),
-    ];
-    words.extend(action(&kernel.action));
+    let mut words = row_head(row.component, row.merge_offset, row.merge_count, &kernel.action);
     words.extend([
         number(kernel.pivot),
         flag(kernel.is_diagonal),
