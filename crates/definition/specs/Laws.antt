@@ -12,14 +12,14 @@ use Rattle.definition.specs.Plan.{Plan, Lengths}
 use Rattle.definition.specs.Connectivity.{Member}
 
 -- neither a NaN nor negative; 0 is +0
-pub data Fair : Float → Type 0 where
-  infinite : Fair (inf Bool.false)
-  number : (m : ℕ) (e : ℤ) → Fair (fin Bool.false m e)
+pub data NonNegative : Float → Type 0 where
+  infinite : NonNegative (inf Bool.false)
+  number : (m : ℕ) (e : ℤ) → NonNegative (fin Bool.false m e)
 
 -- the two works that the choice of section 6 compares
-pub record FairWorks (w : Walk) : Type 0 where
-  pub dense : Fair (w .denseWork)
-  pub component : Fair (w .componentWork)
+pub record NonNegativeWorks (w : Walk) : Type 0 where
+  pub dense : NonNegative (w .denseWork)
+  pub component : NonNegative (w .componentWork)
 
 -- What the Rust guards against and 01 gives no number: a state where any of these fails is never met. An active coordinate has a number that was given out
 -- (the Rust's "invalid active coordinate") and stands in a component ("active coordinate without a component"); a component's members, joined or not, are
