@@ -18,15 +18,15 @@ use Rattle.definition.specs.Lists.{placeOf, numbersFrom, total, concat}
 use Rattle.definition.specs.Components.{support, localMask, liveDimension, amplitudes}
 use Rattle.definition.specs.Walk.{Walk, Join, joinOf, localAction, start, noStep, ignoredStep, promotionStep, rotationStep, measurementStep, rowHead, rotationRow, measurementRow}
 use Rattle.definition.specs.Plan.{Plan, planFrom}
-use Rattle.definition.specs.Connectivity.{Member, Roll, rollStart, rollStep, rollAfter, withLinks, advanced, supportOf, rotationAt, measurementAt, binsJoined, binsAfter, longestOf, LocalBits, JoinHolds, JoinClaim, isPromotion, isMeasurement}
+use Rattle.definition.specs.Connectivity.{Member, ActiveOrder, activeStart, activeStep, activeAfter, withLinks, advanced, supportOf, rotationAt, measurementAt, replayJoined, replayAfter, longestOf, LocalBits, JoinHolds, JoinClaim, isPromotion, isMeasurement}
 use Rattle.definition.proofs.Counting.{place-below, place-holds, member-at, length-removeAt, length-numbers}
 use Rattle.definition.proofs.Steps.{Stepped, ignored, rotated, promoted, measured, recorded, detected, expected, branched, Run, done, more}
 use Rattle.definition.proofs.Joins.{gathered-from, gathered-holds}
 use Rattle.definition.proofs.LocalBits.{local-bit, local-clear, support-same, support-member}
 use Rattle.definition.proofs.Invariant.{listed-active, active-listed, sources, holds-source, anchored-cases}
 use Rattle.definition.proofs.Growth.{Grown, AllOf, grown-trans, run-grown, step-steps}
-use Rattle.definition.proofs.Tracking.{Tracked, rollOf, tracked-here, target-members, join-length, rotation-action, measurement-keeps, start-tracked, step-tracked}
-use Rattle.definition.proofs.Replay.{joinedComponents, BinsAre, rotation-kind, rotation-row, measurement-kind, measurement-row, step-joined, step-bins}
+use Rattle.definition.proofs.Tracking.{Tracked, activeOf, tracked-here, target-members, join-length, rotation-action, measurement-keeps, start-tracked, step-tracked}
+use Rattle.definition.proofs.Replay.{joinedComponents, ReplayIs, rotation-kind, rotation-row, measurement-kind, measurement-row, step-joined, step-replay}
 use Rattle.definition.proofs.Longest.{sizeAt, Long, start-long, step-long, long-after}
 
 -- ---- the bins' members are the components'
@@ -73,7 +73,7 @@ run-count (done w) = refl
 run-count (more s rest) = let e = step-count s in let f = run-count rest in omega arith
 
 -- the next coordinate's number only grows
-step-next : (r : Roll) (i : Instruction) → r .next ≤ rollStep r i .next
+step-next : (r : ActiveOrder) (i : Instruction) → r .next ≤ activeStep r i .next
 unfolding withLinks advanced
 step-next r (Rotation width x z phase angle sine cosine) = omega arith
 step-next r Promotion = omega arith
@@ -83,13 +83,13 @@ step-next r RecordDetector = omega arith
 step-next r Expectation = omega arith
 step-next r DormantBranch = omega arith
 
-pub next-grows : (r : Roll) (is : List Instruction) → r .next ≤ rollAfter r is .next
+pub next-grows : (r : ActiveOrder) (is : List Instruction) → r .next ≤ activeAfter r is .next
 next-grows r [] = omega arith
-next-grows r (i ∷ is) = let e = step-next r i in let f = next-grows (rollStep r i) is in omega arith
+next-grows r (i ∷ is) = let e = step-next r i in let f = next-grows (activeStep r i) is in omega arith
 
 -- ---- just after a join
 
-module _ (w : Walk) (r : Roll) (t : Tracked w r) (width x z : ℕ) (wide : width ≡ length (w .order)) where
+module _ (w : Walk) (r : ActiveOrder) (t : Tracked w r) (width x z : ℕ) (wide : width ≡ length (w .order)) where
   abbrev members : List ℕ
   members = joinOf x z w .members
 
@@ -98,7 +98,7 @@ module _ (w : Walk) (r : Roll) (t : Tracked w r) (width x z : ℕ) (wide : width
   unfolding joinOf
   member-active a m =
       let g = gathered-from (w .components) (joinOf x z w .sources) a m in
-      subst (λ (o : List ℕ). Member a o) (t .order-same) (listed-active (w .components) (rollOf w r) (tracked-here w r t) a (g .0) (g .2))
+      subst (λ (o : List ℕ). Member a o) (t .order-same) (listed-active (w .components) (activeOf w r) (tracked-here w r t) a (g .0) (g .2))
 
   support-held : (a : ℕ) → Member a (supportOf width x z (r .order)) → Member a members
   unfolding joinOf
@@ -107,18 +107,18 @@ module _ (w : Walk) (r : Roll) (t : Tracked w r) (width x z : ℕ) (wide : width
       ap₂ (λ (n : ℕ) (o : List ℕ). supportOf n x z o) wide (sym (t .order-same)) ∙ sym (support-same x z (w .order)) in
       let s : Member a (support x z (w .order)) = subst (λ (l : List ℕ). Member a l) same m in
       let h = tracked-here w r t in
-      let l = active-listed (w .components) (rollOf w r) h a (support-member x z (w .order) a s) in
+      let l = active-listed (w .components) (activeOf w r) h a (support-member x z (w .order) a s) in
       let coordinate =
       ⊎-elim
       (λ e. let n : Member a [] = subst (λ (k : List ℕ). Member a k) e s in absurd (omega arith))
       (λ e. subst (λ (k : List ℕ). Member a k) (sym e) s)
       (anchored-cases (w .order) (support x z (w .order))) in
       gathered-holds (w .components) (joinOf x z w .sources) a (l .0)
-      (holds-source (w .components) (rollOf w r) h x z (l .0) a (l .1) coordinate (l .2)) (l .2)
+      (holds-source (w .components) (activeOf w r) h x z (l .0) a (l .1) coordinate (l .2)) (l .2)
 
-  pub join-holds : (bin row : List ℕ) → bin ≡ members → getD row 3 0 ≡ length members → getD row 4 0 ≡ localMask x (w .order) members
-      → getD row 5 0 ≡ localMask z (w .order) members → JoinHolds (r .order) (supportOf width x z (r .order)) bin row x z
-  join-holds bin row same size xs zs = record {
+  pub join-holds : (component row : List ℕ) → component ≡ members → getD row 3 0 ≡ length members → getD row 4 0 ≡ localMask x (w .order) members
+      → getD row 5 0 ≡ localMask z (w .order) members → JoinHolds (r .order) (supportOf width x z (r .order)) component row x z
+  join-holds component row same size xs zs = record {
     whole-support = λ a m. subst (λ (l : List ℕ). Member a l) (sym same) (support-held a m);
     local-width = ap length same ∙ sym size;
     bits = λ j h. local j (subst (λ (n : ℕ). j < n) size h);
@@ -126,7 +126,7 @@ module _ (w : Walk) (r : Roll) (t : Tracked w r) (width x z : ℕ) (wide : width
     z-clear = λ j h. ap (λ (n : ℕ). bitAt n j) zs ∙ local-clear z (w .order) members j (subst (λ (n : ℕ). n ≤ j) size h);
   }
     where
-      local : (j : ℕ) → j < length members → LocalBits (r .order) bin x z (getD row 4 0) (getD row 5 0) j
+      local : (j : ℕ) → j < length members → LocalBits (r .order) component x z (getD row 4 0) (getD row 5 0) j
       local j h =
           let a = getD members j 0 in
           let on = member-active a (member-at members j h) in
@@ -145,7 +145,7 @@ module _ (initial densePeak : ℕ) (u : Walk) (rotations-wide : AllOf 21 (u .wri
   plan = planFrom initial densePeak u
 
   abbrev Follows : ℕ → Walk → Type 0
-  Follows m w = BinsAre initial densePeak u rotations-wide measurements-wide m w
+  Follows m w = ReplayIs initial densePeak u rotations-wide measurements-wide m w
 
   rotation-entries : (m : ℕ) (w : Walk) (j : Join) (k : PrecomputedActivePauliRotationKernel) (a : ActivePauliAction) → length (w .written .steps) ≡ 2 * m
       → Grown (rotationStep w j k .written) (u .written) → k .action ≡ a
@@ -173,31 +173,31 @@ module _ (initial densePeak : ℕ) (u : Walk) (rotations-wide : AllOf 21 (u .wri
         ap (λ (row : List ℕ). getD row 11 0) e,
       )
 
-  pub step-claim : {limit : ℕ} {w v : Walk} {i : Instruction} (m : ℕ) (r : Roll) → Stepped limit w i v → length (w .written .steps) ≡ 2 * m → Grown (v .written) (u .written)
+  pub step-claim : {limit : ℕ} {w v : Walk} {i : Instruction} (m : ℕ) (r : ActiveOrder) → Stepped limit w i v → length (w .written .steps) ≡ 2 * m → Grown (v .written) (u .written)
       → Tracked w r → Follows m w → JoinClaim plan m r i
   unfolding JoinClaim joinedComponents
-  step-claim m r (ignored x z phase angle sine cosine empty) l g t bins = inl (sym (t .order-same) ∙ empty)
-  step-claim {limit = limit} {w = w} m r (rotated width x z phase angle sine cosine k wide active small fits made) l g t bins =
+  step-claim m r (ignored x z phase angle sine cosine empty) l g t replay = inl (sym (t .order-same) ∙ empty)
+  step-claim {limit = limit} {w = w} m r (rotated width x z phase angle sine cosine k wide active small fits made) l g t replay =
       let j = joinOf x z w in
       let row = rotation-entries m w j k (localAction x z phase w j) l g (rotation-action limit (localAction x z phase w j) phase angle sine cosine k made) in
-      let bin = step-joined initial densePeak u rotations-wide measurements-wide {limit = limit} m r (rotated width x z phase angle sine cosine k wide active small fits made) l g t bins
+      let component = step-joined initial densePeak u rotations-wide measurements-wide {limit = limit} m r (rotated width x z phase angle sine cosine k wide active small fits made) l g t replay
       (getD (rotationAt plan m) 0 0) in
       inr record {
         kind = rotation-kind initial densePeak u rotations-wide measurements-wide m w j k l g;
-        holds = join-holds w r t width x z wide (binsJoined plan m (binsAfter plan m) (getD (rotationAt plan m) 0 0)) (rotationAt plan m)
-            (bin ∙ ap (λ (c : ℕ). getD (j .components) c []) (row .0) ∙ target-members w r t x z active) (row .1) (row .2) (row .3);
+        holds = join-holds w r t width x z wide (replayJoined plan m (replayAfter plan m) (getD (rotationAt plan m) 0 0)) (rotationAt plan m)
+            (component ∙ ap (λ (c : ℕ). getD (j .components) c []) (row .0) ∙ target-members w r t x z active) (row .1) (row .2) (row .3);
       }
-  step-claim m r promoted l g t bins = tt
-  step-claim {limit = limit} {w = w} m r (measured width x z phase pivot k wide active small fits below inside made) l g t bins =
+  step-claim m r promoted l g t replay = tt
+  step-claim {limit = limit} {w = w} m r (measured width x z phase pivot k wide active small fits below inside made) l g t replay =
       let j = joinOf x z w in
       let kept = measurement-keeps limit (localAction x z phase w j) phase (placeOf (getD (w .order) pivot 0) (j .members)) k made in
       let row = measurement-entries m w j pivot k (localAction x z phase w j) l g (kept .0) in
-      let bin = step-joined initial densePeak u rotations-wide measurements-wide {limit = limit} m r (measured width x z phase pivot k wide active small fits below inside made) l g t bins
+      let component = step-joined initial densePeak u rotations-wide measurements-wide {limit = limit} m r (measured width x z phase pivot k wide active small fits below inside made) l g t replay
       (getD (measurementAt plan m) 0 0) in
-      let same = bin ∙ ap (λ (c : ℕ). getD (j .components) c []) (row .0) ∙ target-members w r t x z active in
+      let same = component ∙ ap (λ (c : ℕ). getD (j .components) c []) (row .0) ∙ target-members w r t x z active in
       let local = row .4 ∙ kept .1 in record {
         kind = measurement-kind initial densePeak u rotations-wide measurements-wide m w j pivot k l g;
-        holds = join-holds w r t width x z wide (binsJoined plan m (binsAfter plan m) (getD (measurementAt plan m) 0 0)) (measurementAt plan m) same (row .1) (row .2) (row .3);
+        holds = join-holds w r t width x z wide (replayJoined plan m (replayAfter plan m) (getD (measurementAt plan m) 0 0)) (measurementAt plan m) same (row .1) (row .2) (row .3);
         pivot-active = subst (λ (o : List ℕ). pivot < length o) (t .order-same) below;
         pivot-local = subst (λ (n : ℕ). getD (measurementAt plan m) 11 0 < n) (sym (row .1))
             (subst (λ (q : ℕ). q < length (j .members)) (sym local) (place-below (getD (w .order) pivot 0) (j .members) inside));
@@ -205,28 +205,28 @@ module _ (initial densePeak : ℕ) (u : Walk) (rotations-wide : AllOf 21 (u .wri
             ap₂ (λ (l : List ℕ) (q : ℕ). getD l q 0) same local ∙ place-holds (getD (w .order) pivot 0) (j .members) inside
             ∙ ap (λ (o : List ℕ). getD o pivot 0) (t .order-same);
       }
-  step-claim m r recorded l g t bins = tt
-  step-claim m r detected l g t bins = tt
-  step-claim m r expected l g t bins = tt
-  step-claim m r branched l g t bins = tt
+  step-claim m r recorded l g t replay = tt
+  step-claim m r detected l g t replay = tt
+  step-claim m r expected l g t replay = tt
+  step-claim m r branched l g t replay = tt
 
   -- the longest size of bin c so far is what the walk has
   abbrev LongIs : ℕ → Walk → Type 0
   LongIs m w = (c : ℕ) → longestOf plan m c ≡ getD (w .longest) c 0
 
-  pub run-long : {limit : ℕ} {w v : Walk} {is : List Instruction} (m : ℕ) (r : Roll) → Run limit w is v → Grown (v .written) (u .written) → length (w .written .steps) ≡ 2 * m
+  pub run-long : {limit : ℕ} {w v : Walk} {is : List Instruction} (m : ℕ) (r : ActiveOrder) → Run limit w is v → Grown (v .written) (u .written) → length (w .written .steps) ≡ 2 * m
       → Tracked w r → Follows m w → Long w → LongIs m w → LongIs (m + length is) v
-  run-long m r (done w) g l t bins long so-far c =
+  run-long m r (done w) g l t replay long so-far c =
       let e : m + 0 ≡ m = omega arith in ap (λ (n : ℕ). longestOf plan n c) e ∙ so-far c
-  run-long m r (more {w = w} {v = v} {i = i} {is = is} s rest) g l t bins long so-far c =
+  run-long m r (more {w = w} {v = v} {i = i} {is = is} s rest) g l t replay long so-far c =
       let mid = grown-trans (run-grown rest) g in
       let steps = step-steps s in
       let next = step-long r s t long in
-      let joined = step-joined initial densePeak u rotations-wide measurements-wide m r s l mid t bins in
-      let after = step-bins initial densePeak u rotations-wide measurements-wide m r s l mid t bins in
+      let joined = step-joined initial densePeak u rotations-wide measurements-wide m r s l mid t replay in
+      let after = step-replay initial densePeak u rotations-wide measurements-wide m r s l mid t replay in
       let e : m + suc (length is) ≡ suc m + length is = omega arith in
       ap (λ (n : ℕ). longestOf plan n c) e
-      ∙ run-long (suc m) (rollStep r i) rest g (omega arith) (step-tracked r s t) after (long-after w v (joinedComponents s) next)
+      ∙ run-long (suc m) (activeStep r i) rest g (omega arith) (step-tracked r s t) after (long-after w v (joinedComponents s) next)
       (λ d. ap₂ (λ (a b : ℕ). max a b) (so-far d) (ap₂ (λ (x y : List ℕ). max (length x) (length y)) (joined d) (after d)) ∙ sym (next d)) c
 
 -- ---- the peak is at most the sum of the longest sizes' powers
@@ -267,7 +267,7 @@ step-raises detected = omega arith
 step-raises expected = omega arith
 step-raises branched = omega arith
 
-joined-shorter : {limit : ℕ} {w v : Walk} {i : Instruction} (r : Roll) (s : Stepped limit w i v) → Tracked w r → length (joinedComponents s) ≡ length (w .components)
+joined-shorter : {limit : ℕ} {w v : Walk} {i : Instruction} (r : ActiveOrder) (s : Stepped limit w i v) → Tracked w r → length (joinedComponents s) ≡ length (w .components)
 unfolding joinedComponents
 joined-shorter r (ignored x z phase angle sine cosine empty) t = refl
 joined-shorter {w = w} r (rotated width x z phase angle sine cosine k wide active small fits made) t = join-length w r t x z active
@@ -283,7 +283,7 @@ live-fits : (cs : List (List ℕ)) (longest : List ℕ) → length cs ≤ length
 unfolding liveDimension
 live-fits cs longest h e = live-total cs longest h e
 
-step-fits : {limit : ℕ} {w v : Walk} {i : Instruction} (r : Roll) (s : Stepped limit w i v) → Tracked w r → Long w → PeakFits w → PeakFits v
+step-fits : {limit : ℕ} {w v : Walk} {i : Instruction} (r : ActiveOrder) (s : Stepped limit w i v) → Tracked w r → Long w → PeakFits w → PeakFits v
 step-fits {w = w} {v = v} {i = i} r s t long fits =
     let after = step-tracked r s t in
     let next = step-long r s t long in
@@ -298,10 +298,10 @@ step-fits {w = w} {v = v} {i = i} r s t long fits =
     let joined = live-fits (joinedComponents s) (v .longest) (omega arith) (λ k. let n = next k in omega arith) in
     let last = live-fits (v .components) (v .longest) (omega arith) (λ k. let n = next k in omega arith) in omega arith
 
-run-fits : {limit : ℕ} {w u : Walk} {is : List Instruction} (r : Roll) → Run limit w is u → Tracked w r → Long w → PeakFits w → PeakFits u
+run-fits : {limit : ℕ} {w u : Walk} {is : List Instruction} (r : ActiveOrder) → Run limit w is u → Tracked w r → Long w → PeakFits w → PeakFits u
 run-fits r (done w) t long fits = fits
 run-fits r (more {w = w} {v = v} {i = i} s rest) t long fits =
-    run-fits (rollStep r i) rest (step-tracked r s t) (long-after w v (joinedComponents s) (step-long r s t long)) (step-fits r s t long fits)
+    run-fits (activeStep r i) rest (step-tracked r s t) (long-after w v (joinedComponents s) (step-long r s t long)) (step-fits r s t long fits)
 
 pub start-is-long : (k : ℕ) → Long (start k)
 start-is-long k i = let e = start-long k i in omega arith
@@ -313,7 +313,7 @@ start-fits k =
     (λ i. let e = start-long k i in omega arith)
 
 pub peak-total : {limit : ℕ} (k : ℕ) {u : Walk} {is : List Instruction} → Run limit (start k) is u → PeakFits u
-peak-total k run = run-fits (rollStart k) run (start-tracked k) (start-is-long k) (start-fits k)
+peak-total k run = run-fits (activeStart k) run (start-tracked k) (start-is-long k) (start-fits k)
 
 -- ---- the sum over the bins is the sum over the longest sizes
 

@@ -17,23 +17,23 @@ use Rattle.definition.specs.Lists.{numbersFrom, total, concat}
 use Rattle.definition.specs.Components.{allocatedFor}
 use Rattle.definition.specs.Walk.{Walk, start}
 use Rattle.definition.specs.Plan.{Lengths, Plan, planned, unread, planFrom, planOf}
-use Rattle.definition.specs.Connectivity.{occurrences, Member, NoRepeats, Rearranged, greatest, Roll, rollStart, rollAfter, Linked, liveAt, moments, binsAfter, binMembers, SameBin, longestOf, JoinClaim, isPromotion, isMeasurement, Connected}
+use Rattle.definition.specs.Connectivity.{occurrences, Member, NoRepeats, Rearranged, greatest, ActiveOrder, activeStart, activeAfter, Linked, liveAt, moments, replayAfter, replayMembers, SameComponent, longestOf, JoinClaim, isPromotion, isMeasurement, Connected}
 use Rattle.definition.proofs.Steps.{Run, more, run-split}
 use Rattle.definition.proofs.Classes.{class-linked}
 use Rattle.definition.proofs.Live.{rearranged-length}
 use Rattle.definition.proofs.Invariant.{holds-start, listed-below}
 use Rattle.definition.proofs.Growth.{AllOf, grown-refl, run-grown, run-steps, run-rotations, run-measurements, start-wide}
 use Rattle.definition.proofs.Tracking.{Tracked, live-same, start-tracked, run-tracked, run-peak}
-use Rattle.definition.proofs.Replay.{BinsAre, run-bins, start-bins}
+use Rattle.definition.proofs.Replay.{ReplayIs, run-replay, start-replay}
 use Rattle.definition.proofs.Longest.{start-long}
 use Rattle.definition.proofs.Claims.{map-same, concat-numbers, map-entries, start-order, run-count, next-grows, step-claim, run-long, start-is-long, peak-total}
 use Rattle.definition.proofs.Gathering.{all-gather}
 use Rattle.definition.proofs.Room.{plan-fits}
 use Rattle.definition.proofs.Accepted.{accepted}
 
-start-peak : (k : ℕ) → start k .peak ≡ liveAt (rollStart k)
+start-peak : (k : ℕ) → start k .peak ≡ liveAt (activeStart k)
 unfolding start
-start-peak k = live-same (map (λ c. c ∷ []) (numbersFrom 0 k)) (rollStart k) (holds-start k)
+start-peak k = live-same (map (λ c. c ∷ []) (numbersFrom 0 k)) (activeStart k) (holds-start k)
 
 module _ (limit k densePeak : ℕ) (is : List Instruction) (u : Walk) (run : Run limit (start k) is u) where
   abbrev plan : Plan
@@ -46,7 +46,7 @@ module _ (limit k densePeak : ℕ) (is : List Instruction) (u : Walk) (run : Run
   measurements-wide = run-measurements run (start-wide k 19 .1)
 
   abbrev Follows : ℕ → Walk → Type 0
-  Follows m w = BinsAre k densePeak u rotations-wide measurements-wide m w
+  Follows m w = ReplayIs k densePeak u rotations-wide measurements-wide m w
 
   start-steps : length (start k .written .steps) ≡ 2 * 0
   unfolding start
@@ -57,7 +57,7 @@ module _ (limit k densePeak : ℕ) (is : List Instruction) (u : Walk) (run : Run
     state : Walk
     front : Run limit (start k) (take m is) state
     back : Run limit state (drop m is) u
-    tracked : Tracked state (rollAfter (rollStart k) (take m is))
+    tracked : Tracked state (activeAfter (activeStart k) (take m is))
     follows : Follows m state
     steps-same : length (state .written .steps) ≡ 2 * m
     components-within : length (state .components) ≤ length (u .components)
@@ -66,97 +66,97 @@ module _ (limit k densePeak : ℕ) (is : List Instruction) (u : Walk) (run : Run
   cut m h =
       let parts = run-split m run in
       let taken : length (take m is) ≡ m = let e = length-take m is in omega arith in
-      let t = run-tracked (rollStart k) (parts .1) (start-tracked k) in
-      let last = run-tracked (rollAfter (rollStart k) (take m is)) (parts .2) t in
-      let bins = run-bins k densePeak u rotations-wide measurements-wide 0 (rollStart k) (parts .1) (run-grown (parts .2)) start-steps (start-tracked k)
-      (start-bins k densePeak u rotations-wide measurements-wide) in
+      let t = run-tracked (activeStart k) (parts .1) (start-tracked k) in
+      let last = run-tracked (activeAfter (activeStart k) (take m is)) (parts .2) t in
+      let replay = run-replay k densePeak u rotations-wide measurements-wide 0 (activeStart k) (parts .1) (run-grown (parts .2)) start-steps (start-tracked k)
+      (start-replay k densePeak u rotations-wide measurements-wide) in
       let steps = run-steps (parts .1) in
       let zero-steps = start-steps in
-      let grows = next-grows (rollAfter (rollStart k) (take m is)) (drop m is) in
+      let grows = next-grows (activeAfter (activeStart k) (take m is)) (drop m is) in
       let a = t .holds .next-same in
       let b = last .holds .next-same in record {
         state = parts .0;
         front = parts .1;
         back = parts .2;
         tracked = t;
-        follows = λ i. let e : 0 + length (take m is) ≡ m = omega arith in ap (λ (n : ℕ). binsAfter plan n i) (sym e) ∙ bins i;
+        follows = λ i. let e : 0 + length (take m is) ≡ m = omega arith in ap (λ (n : ℕ). replayAfter plan n i) (sym e) ∙ replay i;
         steps-same = omega arith;
         components-within = omega arith;
       }
 
   module _ (m : ℕ) (at : At m) where
-    abbrev roll : Roll
-    roll = rollAfter (rollStart k) (take m is)
+    abbrev now-active : ActiveOrder
+    now-active = activeAfter (activeStart k) (take m is)
 
     abbrev components : List (List ℕ)
     components = at .state .components
 
     -- the bins' members are the components', one after the other
-    members-are : binMembers plan (binsAfter plan m) ≡ concat components
+    members-are : replayMembers plan (replayAfter plan m) ≡ concat components
     unfolding planFrom
     members-are =
-        ap concat (map-same (binsAfter plan m) (λ i. getD components i []) (at .follows) (numbersFrom 0 (length (u .components))))
+        ap concat (map-same (replayAfter plan m) (λ i. getD components i []) (at .follows) (numbersFrom 0 (length (u .components))))
         ∙ concat-numbers components (length (u .components)) (at .components-within)
 
-    rearranged : Rearranged (binMembers plan (binsAfter plan m)) (roll .order)
+    rearranged : Rearranged (replayMembers plan (replayAfter plan m)) (now-active .order)
     rearranged a = ap (occurrences a) members-are ∙ at .tracked .holds .held a
 
-    once : NoRepeats (binMembers plan (binsAfter plan m))
+    once : NoRepeats (replayMembers plan (replayAfter plan m))
     once a = let e = rearranged a in let o = at .tracked .holds .once a in omega arith
 
-    counted : length (binMembers plan (binsAfter plan m)) + total (map isMeasurement (take m is)) ≡ k + total (map isPromotion (take m is))
+    counted : length (replayMembers plan (replayAfter plan m)) + total (map isMeasurement (take m is)) ≡ k + total (map isPromotion (take m is))
     counted =
-        let e = rearranged-length (binMembers plan (binsAfter plan m)) (roll .order) rearranged in
+        let e = rearranged-length (replayMembers plan (replayAfter plan m)) (now-active .order) rearranged in
         let o = ap length (at .tracked .order-same) in
         let c = run-count (at .front) in
         let s = start-order k in omega arith
 
-    same-bins : (a b : ℕ) → Member a (roll .order) → Member b (roll .order) → SameBin plan (binsAfter plan m) a b ↔ Linked (roll .links) a b
+    same-components : (a b : ℕ) → Member a (now-active .order) → Member b (now-active .order) → SameComponent plan (replayAfter plan m) a b ↔ Linked (now-active .links) a b
     unfolding planFrom
-    same-bins a b ma mb =
+    same-components a b ma mb =
         let h = at .tracked .holds in
         let c = h .classes a b ma mb in
-        let l = class-linked (roll .links) a b in (
-          λ s. l .0 (c .0 (s .bin, subst (λ (xs : List ℕ). Member a xs) (at .follows (s .bin)) (s .first), subst (λ (xs : List ℕ). Member b xs) (at .follows (s .bin)) (s .second))),
+        let l = class-linked (now-active .links) a b in (
+          λ s. l .0 (c .0 (s .component, subst (λ (xs : List ℕ). Member a xs) (at .follows (s .component)) (s .first), subst (λ (xs : List ℕ). Member b xs) (at .follows (s .component)) (s .second))),
           λ x. let s = c .1 (l .1 x) in record {
-            bin = s .0;
+            component = s .0;
             listed = let i = listed-below components (s .0) a (s .1) in let w = at .components-within in omega arith;
             first = subst (λ (xs : List ℕ). Member a xs) (sym (at .follows (s .0))) (s .1);
             second = subst (λ (xs : List ℕ). Member b xs) (sym (at .follows (s .0))) (s .2);
           },
         )
 
-    claims : m < length is → JoinClaim plan m roll (getD is m DormantBranch)
+    claims : m < length is → JoinClaim plan m now-active (getD is m DormantBranch)
     claims h = first (drop m is) (at .back) (drop-cons is m DormantBranch h)
       where
-        first : (rest : List Instruction) → Run limit (at .state) rest u → rest ≡ getD is m DormantBranch ∷ drop (suc m) is → JoinClaim plan m roll (getD is m DormantBranch)
+        first : (rest : List Instruction) → Run limit (at .state) rest u → rest ≡ getD is m DormantBranch ∷ drop (suc m) is → JoinClaim plan m now-active (getD is m DormantBranch)
         first [] r e = let z : _≡_ {A = ℕ} 0 1 = cc in absurd (omega arith)
         first (i ∷ rest) r e =
             let same : i ≡ getD is m DormantBranch = cc in
-            subst (λ (j : Instruction). JoinClaim plan m roll j) same (of-run i rest r)
+            subst (λ (j : Instruction). JoinClaim plan m now-active j) same (of-run i rest r)
           where
-            of-run : (i : Instruction) (rest : List Instruction) → Run limit (at .state) (i ∷ rest) u → JoinClaim plan m roll i
+            of-run : (i : Instruction) (rest : List Instruction) → Run limit (at .state) (i ∷ rest) u → JoinClaim plan m now-active i
             of-run i rest (more s later) =
-                step-claim k densePeak u rotations-wide measurements-wide m roll s (at .steps-same) (run-grown later) (at .tracked) (at .follows)
+                step-claim k densePeak u rotations-wide measurements-wide m now-active s (at .steps-same) (run-grown later) (at .tracked) (at .follows)
 
   -- the plan's peak is the greatest live dimension over all moments
-  peak-is : plan .peak ≡ greatest (map liveAt (rollStart k ∷ moments (rollStart k) is))
+  peak-is : plan .peak ≡ greatest (map liveAt (activeStart k ∷ moments (activeStart k) is))
   unfolding planFrom
-  peak-is = run-peak (rollStart k) run (start-tracked k) ∙ ap (λ (n : ℕ). max n (greatest (map liveAt (moments (rollStart k) is)))) (start-peak k)
+  peak-is = run-peak (activeStart k) run (start-tracked k) ∙ ap (λ (n : ℕ). max n (greatest (map liveAt (moments (activeStart k) is)))) (start-peak k)
 
   -- the longest sizes are the greatest lengths of the bins
   longest-is : (c : ℕ) → longestOf plan (length is) c ≡ getD (u .longest) c 0
   longest-is c =
       let e : length is ≡ 0 + length is = omega arith in
       ap (λ (n : ℕ). longestOf plan n c) e
-      ∙ run-long k densePeak u rotations-wide measurements-wide 0 (rollStart k) run (grown-refl (u .written)) start-steps (start-tracked k)
-      (start-bins k densePeak u rotations-wide measurements-wide) (start-is-long k)
-      (λ d. ap length (start-bins k densePeak u rotations-wide measurements-wide d) ∙ sym (start-long k d)) c
+      ∙ run-long k densePeak u rotations-wide measurements-wide 0 (activeStart k) run (grown-refl (u .written)) start-steps (start-tracked k)
+      (start-replay k densePeak u rotations-wide measurements-wide) (start-is-long k)
+      (λ d. ap length (start-replay k densePeak u rotations-wide measurements-wide d) ∙ sym (start-long k d)) c
 
   allocated-is : plan .allocated ≡ min (2 ^ 64 - 1) (total (map (λ c. 2 ^ longestOf plan (length is) c) (numbersFrom 0 (plan .componentCount))))
   unfolding planFrom allocatedFor
   allocated-is =
-      let last = run-tracked (rollStart k) run (start-tracked k) in
+      let last = run-tracked (activeStart k) run (start-tracked k) in
       ap (λ (l : List ℕ). min (2 ^ 64 - 1) (total l))
       (sym (map-same (λ c. 2 ^ longestOf plan (length is) c) (λ c. 2 ^ getD (u .longest) c 0) (λ c. ap (λ (n : ℕ). 2 ^ n) (longest-is c)) (numbersFrom 0 (length (u .components)))
       ∙ map-entries (λ n. 2 ^ n) (u .longest) (length (u .components)) (last .longest-same)))
@@ -171,7 +171,7 @@ module _ (limit k densePeak : ℕ) (is : List Instruction) (u : Walk) (run : Run
         rearrangement = rearranged m at;
         no-repeats = once m at;
         count = counted m at;
-        same-bin = same-bins m at;
+        same-component = same-components m at;
         joins = claims m at;
         gathered = all-gather k run (start-tracked k);
         peak = peak-is;

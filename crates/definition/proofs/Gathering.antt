@@ -9,7 +9,7 @@ use lib.ListN.{getD}
 use Rattle.records.specs.declared.Instruction.{Instruction}
 use Rattle.definition.specs.Lists.{placeOf}
 use Rattle.definition.specs.Walk.{Walk, joinOf, localAction, start}
-use Rattle.definition.specs.Connectivity.{Member, Roll, rollStart, rollStep, withLinks, advanced, classOf, setsOf, Gathers, momentsOf, moments}
+use Rattle.definition.specs.Connectivity.{Member, ActiveOrder, activeStart, activeStep, withLinks, advanced, classOf, setsOf, Gathers, momentsOf, moments}
 use Rattle.definition.proofs.Counting.{member-or-not}
 use Rattle.definition.proofs.Steps.{Stepped, ignored, rotated, promoted, measured, recorded, detected, expected, branched, Run, done, more}
 use Rattle.definition.proofs.Classes.{class-linked}
@@ -17,7 +17,7 @@ use Rattle.definition.proofs.Live.{classesFrom, class-holds, classes-ho
 use Rattle.definition.proofs.Invariant.{Holds, class-in, holds-start, holds-promote}
 use Rattle.definition.proofs.Tracking.{Tracked, tracked-join, tracked-removal, holds-unlinked, measurement-keeps, step-tracked}
 
-pub holds-gathers : (cs : List (List ℕ)) (r : Roll) → Holds cs r → Gathers r
+pub holds-gathers : (cs : List (List ℕ)) (r : ActiveOrder) → Holds cs r → Gathers r
 unfolding setsOf
 holds-gathers cs r h = record {
   whole = λ a.
@@ -44,10 +44,10 @@ holds-gathers cs r h = record {
         (subst (λ (n : ℕ). 0 < n) (sym (class-holds (classOf (r .links)) (r .order) b (0 + classOf (r .links) a) first)) mb)
 
 -- the moments of one step
-only : {q m : Roll} → List·Memᴰ q (m ∷ []) → Gathers m → Gathers q
+only : {q m : ActiveOrder} → List·Memᴰ q (m ∷ []) → Gathers m → Gathers q
 only i g = subst Gathers (sym (List·Memᴰ·eq-of-singleton i)) g
 
-step-gathers : {limit : ℕ} {w v : Walk} {i : Instruction} (r : Roll) → Stepped limit w i v → Tracked w r → (q : Roll) → List·Memᴰ q (momentsOf r i) → Gathers q
+step-gathers : {limit : ℕ} {w v : Walk} {i : Instruction} (r : ActiveOrder) → Stepped limit w i v → Tracked w r → (q : ActiveOrder) → List·Memᴰ q (momentsOf r i) → Gathers q
 unfolding momentsOf withLinks advanced
 step-gathers {w = w} r (ignored x z phase angle sine cosine empty) t q i = only i (holds-gathers (w .components) _ (holds-unlinked (w .components) r x z (t .holds)))
 step-gathers {w = w} r (rotated width x z phase angle sine cosine k wide active small fits made) t q i =
@@ -66,13 +66,13 @@ step-gathers r expected t q i = absurd (List·Memᴰ·not-nil i)
 step-gathers r branched t q i = absurd (List·Memᴰ·not-nil i)
 
 -- the moments of a run
-pub run-gathers : {limit : ℕ} {w u : Walk} {is : List Instruction} (r : Roll) → Run limit w is u → Tracked w r → (q : Roll) → List·Memᴰ q (moments r is) → Gathers q
+pub run-gathers : {limit : ℕ} {w u : Walk} {is : List Instruction} (r : ActiveOrder) → Run limit w is u → Tracked w r → (q : ActiveOrder) → List·Memᴰ q (moments r is) → Gathers q
 run-gathers r (done w) t q i = absurd (List·Memᴰ·not-nil i)
 run-gathers r (more {i = i} s rest) t q m =
-    ⊎-elim (λ a. step-gathers r s t q a) (λ b. run-gathers (rollStep r i) rest (step-tracked r s t) q b) (List·Memᴰ·append-cases (momentsOf r i) m)
+    ⊎-elim (λ a. step-gathers r s t q a) (λ b. run-gathers (activeStep r i) rest (step-tracked r s t) q b) (List·Memᴰ·append-cases (momentsOf r i) m)
 
 -- and the start
-pub all-gather : {limit : ℕ} (k : ℕ) {u : Walk} {is : List Instruction} → Run limit (start k) is u → Tracked (start k) (rollStart k)
-    → (q : Roll) → List·Memᴰ q (rollStart k ∷ moments (rollStart k) is) → Gathers q
+pub all-gather : {limit : ℕ} (k : ℕ) {u : Walk} {is : List Instruction} → Run limit (start k) is u → Tracked (start k) (activeStart k)
+    → (q : ActiveOrder) → List·Memᴰ q (activeStart k ∷ moments (activeStart k) is) → Gathers q
 all-gather k run t q i =
-    ⊎-elim (λ e. subst Gathers (sym e) (holds-gathers _ _ (holds-start k))) (λ m. run-gathers (rollStart k) run t q m) (List·Memᴰ·cases-cons i)
+    ⊎-elim (λ e. subst Gathers (sym e) (holds-gathers _ _ (holds-start k))) (λ m. run-gathers (activeStart k) run t q m) (List·Memᴰ·cases-cons i)

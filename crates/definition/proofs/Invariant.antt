@@ -12,15 +12,15 @@ use lib.Seq.{getD-set-same, getD-set-other, getD-append-seam}
 use borrow.Author.Tests.{eq-eqb, ne-eqb}
 use Rattle.definition.specs.Lists.{removeAt, numbersFrom, concat}
 use Rattle.definition.specs.Components.{support, orFirst, meeting, touched, sourcesOf, joined}
-use Rattle.definition.specs.Connectivity.{occurrences, Member, NoRepeats, Rearranged, Roll, rollStart, supportOf, merged, classOf, joinBins, poured}
+use Rattle.definition.specs.Connectivity.{occurrences, Member, NoRepeats, Rearranged, ActiveOrder, activeStart, supportOf, merged, classOf, replayJoin, joinedMembers}
 use Rattle.definition.proofs.Counting.{same-or-not, member-or-not, one-here, none-here, member-head, member-cons, occurrences-append, occurrences-concat-append, occurrences-set, occurrences-listed, member-listed, occurrences-removeAt, numbers-once, numbers-bounds, length-numbers}
-use Rattle.definition.proofs.Joins.{meet-shares, shares-meet, meeting-meets, meets-meeting, meeting-once, sources-same, length-joined, joined-is, joined-count, gathered-poured, join-cases, join-target, gathered-from, gathered-holds}
+use Rattle.definition.proofs.Joins.{meet-shares, shares-meet, meeting-meets, meets-meeting, meeting-once, sources-same, length-joined, joined-is, joined-count, gathered-joined, join-cases, join-target, gathered-from, gathered-holds}
 use Rattle.definition.proofs.LocalBits.{support-same, support-member}
 use Rattle.definition.proofs.Live as Live
 use Rattle.definition.proofs.Live.{SameList}
 use Rattle.definition.proofs.Classes.{Touches, merged-same, class-append, Below, class-below, class-above}
 
-pub record Holds (cs : List (List ℕ)) (r : Roll) : Type 0 where
+pub record Holds (cs : List (List ℕ)) (r : ActiveOrder) : Type 0 where
   pub next-same : length cs ≡ r .next
   pub held : Rearranged (concat cs) (r .order)
   pub once : NoRepeats (r .order)
@@ -35,19 +35,19 @@ listed-below (x ∷ cs) zero d m = omega arith
 listed-below (x ∷ cs) (suc c) d m = let r = listed-below cs c d m in omega arith
 
 -- an active coordinate stands in one component only
-pub one-list : (cs : List (List ℕ)) (r : Roll) → Holds cs r → (a c d : ℕ) → Member a (getD cs c []) → Member a (getD cs d []) → c ≡ d
+pub one-list : (cs : List (List ℕ)) (r : ActiveOrder) → Holds cs r → (a c d : ℕ) → Member a (getD cs c []) → Member a (getD cs d []) → c ≡ d
 one-list cs r h a c d m n = Live.one-list a cs (λ b. let o = h .once b in let k = h .held b in omega arith) c d m n
 
 -- an active coordinate's class is below the next number
-pub class-in : (cs : List (List ℕ)) (r : Roll) → Holds cs r → (a : ℕ) → Member a (r .order) → classOf (r .links) a < r .next
+pub class-in : (cs : List (List ℕ)) (r : ActiveOrder) → Holds cs r → (a : ℕ) → Member a (r .order) → classOf (r .links) a < r .next
 class-in cs r h a m = class-below (r .links) (r .next) (h .links-below) a (h .below a m)
 
 -- what a component holds is active
-pub listed-active : (cs : List (List ℕ)) (r : Roll) → Holds cs r → (a c : ℕ) → Member a (getD cs c []) → Member a (r .order)
+pub listed-active : (cs : List (List ℕ)) (r : ActiveOrder) → Holds cs r → (a c : ℕ) → Member a (getD cs c []) → Member a (r .order)
 listed-active cs r h a c m = let l = occurrences-listed a cs c in let k = h .held a in omega arith
 
 -- what is active stands in a component
-pub active-listed : (cs : List (List ℕ)) (r : Roll) → Holds cs r → (a : ℕ) → Member a (r .order) → (c : ℕ) × (c < length cs) × Member a (getD cs c [])
+pub active-listed : (cs : List (List ℕ)) (r : ActiveOrder) → Holds cs r → (a : ℕ) → Member a (r .order) → (c : ℕ) × (c < length cs) × Member a (getD cs c [])
 active-listed cs r h a m = member-listed a cs (let k = h .held a in omega arith)
 
 -- ---- a join
@@ -78,7 +78,7 @@ first-same (b ∷ order) d e m n =
     (λ k. absurd (omega arith))
     (member-cons d b [] m)
 
-module _ (cs : List (List ℕ)) (r : Roll) (h : Holds cs r) (x z : ℕ) where
+module _ (cs : List (List ℕ)) (r : ActiveOrder) (h : Holds cs r) (x z : ℕ) where
   abbrev pub coordinates : List ℕ
   coordinates = orFirst (r .order) (support x z (r .order))
 
@@ -123,20 +123,20 @@ module _ (cs : List (List ℕ)) (r : Roll) (h : Holds cs r) (x z : ℕ) where
   InSource a = (c : ℕ) × Member c sources × Member a (getD cs c [])
 
   -- the component i after the join
-  pub after-join : (i : ℕ) → getD (joined cs sources) i [] ≡ joinBins sources (λ c. getD cs c []) i
+  pub after-join : (i : ℕ) → getD (joined cs sources) i [] ≡ replayJoin sources (λ c. getD cs c []) i
   after-join i = joined-is cs sources i sources-once source-below
 
   -- the target's members after the join are those of the sources
-  pub poured-in : (a : ℕ) → Member a (poured (λ c. getD cs c []) sources) → InSource a
-  poured-in a m = gathered-from cs sources a (subst (λ (l : List ℕ). Member a l) (sym (gathered-poured cs sources)) m)
+  pub joined-in : (a : ℕ) → Member a (joinedMembers (λ c. getD cs c []) sources) → InSource a
+  joined-in a m = gathered-from cs sources a (subst (λ (l : List ℕ). Member a l) (sym (gathered-joined cs sources)) m)
 
-  pub in-poured : (a : ℕ) → InSource a → Member a (poured (λ c. getD cs c []) sources)
-  in-poured a s = subst (λ (l : List ℕ). Member a l) (gathered-poured cs sources) (gathered-holds cs sources a (s .0) (s .1) (s .2))
+  pub in-joined : (a : ℕ) → InSource a → Member a (joinedMembers (λ c. getD cs c []) sources)
+  in-joined a s = subst (λ (l : List ℕ). Member a l) (gathered-joined cs sources) (gathered-holds cs sources a (s .0) (s .1) (s .2))
 
   in-target : (a c : ℕ) → Member c sources → InSource a → Member a (getD (joined cs sources) (getD sources 0 0) [])
-  in-target a c m s = subst (λ (l : List ℕ). Member a l) (sym (after-join (getD sources 0 0) ∙ join-target (λ c. getD cs c []) sources c m)) (in-poured a s)
+  in-target a c m s = subst (λ (l : List ℕ). Member a l) (sym (after-join (getD sources 0 0) ∙ join-target (λ c. getD cs c []) sources c m)) (in-joined a s)
 
-  unlisted : (i : ℕ) → occurrences i sources ≡ 0 → joinBins sources (λ c. getD cs c []) i ≡ getD cs i []
+  unlisted : (i : ℕ) → occurrences i sources ≡ 0 → replayJoin sources (λ c. getD cs c []) i ≡ getD cs i []
   unlisted i e =
       ⊎-elim
       (λ t. absurd (let m = t .0 .0 in omega arith))
@@ -156,10 +156,10 @@ module _ (cs : List (List ℕ)) (r : Roll) (h : Holds cs r) (x z : ℕ) where
   pub shares-before : (a b : ℕ) → SameList (joined cs sources) a b → SameList cs a b ⊎ (InSource a × InSource b)
   shares-before a b s =
       let i = s .0 in
-      let ma : Member a (joinBins sources (λ c. getD cs c []) i) = subst (λ (l : List ℕ). Member a l) (after-join i) (s .1) in
-      let mb : Member b (joinBins sources (λ c. getD cs c []) i) = subst (λ (l : List ℕ). Member b l) (after-join i) (s .2) in
+      let ma : Member a (replayJoin sources (λ c. getD cs c []) i) = subst (λ (l : List ℕ). Member a l) (after-join i) (s .1) in
+      let mb : Member b (replayJoin sources (λ c. getD cs c []) i) = subst (λ (l : List ℕ). Member b l) (after-join i) (s .2) in
       ⊎-elim
-      (λ t. inr (poured-in a (subst (λ (l : List ℕ). Member a l) (t .1) ma), poured-in b (subst (λ (l : List ℕ). Member b l) (t .1) mb)))
+      (λ t. inr (joined-in a (subst (λ (l : List ℕ). Member a l) (t .1) ma), joined-in b (subst (λ (l : List ℕ). Member b l) (t .1) mb)))
       (λ rest. ⊎-elim
       (λ o. let n : Member a [] = subst (λ (l : List ℕ). Member a l) (o .1) ma in absurd (omega arith))
       (λ u. inl (i, subst (λ (l : List ℕ). Member a l) (u .1) ma, subst (λ (l : List ℕ). Member b l) (u .1) mb))
@@ -231,7 +231,7 @@ module _ (cs : List (List ℕ)) (r : Roll) (h : Holds cs r) (x z : ℕ) where
           (anchored-cases (r .order) reached)
 
 -- a join keeps the invariant, with its support among the links
-pub holds-join : (cs : List (List ℕ)) (r : Roll) (width x z : ℕ) → width ≡ length (r .order) → Holds cs r
+pub holds-join : (cs : List (List ℕ)) (r : ActiveOrder) (width x z : ℕ) → width ≡ length (r .order) → Holds cs r
     → Holds (joined cs (sourcesOf cs (touched x z (r .order) cs))) (record { order = r .order; next = r .next; links = r .links ++ (supportOf width x z (r .order) ∷ []) })
 holds-join cs r width x z wide h = record {
   next-same = length-joined cs (sourcesOf cs (touched x z (r .order) cs)) ∙ h .next-same;
@@ -268,7 +268,7 @@ alone-at [] c a m = absurd (omega arith)
 alone-at (x ∷ xs) zero a m = ⊎-elim (λ e. e) (λ n. absurd (omega arith)) (member-cons a x [] m)
 alone-at (x ∷ xs) (suc c) a m = alone-at xs c a m
 
-pub holds-start : (k : ℕ) → Holds (map (λ c. c ∷ []) (numbersFrom 0 k)) (rollStart k)
+pub holds-start : (k : ℕ) → Holds (map (λ c. c ∷ []) (numbersFrom 0 k)) (activeStart k)
 unfolding classOf
 holds-start k = record {
   next-same = length-map (numbersFrom 0 k) (λ c. c ∷ []) ∙ length-numbers 0 k;
@@ -312,7 +312,7 @@ snoc-kept [] n c a m = absurd (omega arith)
 snoc-kept (x ∷ cs) n zero a m = m
 snoc-kept (x ∷ cs) n (suc c) a m = snoc-kept cs n c a m
 
-pub holds-promote : (cs : List (List ℕ)) (r : Roll) → Holds cs r
+pub holds-promote : (cs : List (List ℕ)) (r : ActiveOrder) → Holds cs r
     → Holds (cs ++ ((length cs ∷ []) ∷ [])) (record { order = r .order ++ (r .next ∷ []); next = suc (r .next); links = r .links })
 holds-promote cs r h = record {
   next-same = length-append cs ((length cs ∷ []) ∷ []) ∙ (let e = h .next-same in omega arith);
@@ -382,7 +382,7 @@ holds-promote cs r h = record {
 
 -- ---- a removal
 
-pub holds-remove : (cs : List (List ℕ)) (r : Roll) (t p q : ℕ) → Holds cs r → t < length cs → q < length (getD cs t []) → p < length (r .order)
+pub holds-remove : (cs : List (List ℕ)) (r : ActiveOrder) (t p q : ℕ) → Holds cs r → t < length cs → q < length (getD cs t []) → p < length (r .order)
     → getD (getD cs t []) q 0 ≡ getD (r .order) p 0
     → Holds (set cs t (removeAt q (getD cs t []))) (record { order = removeAt p (r .order); next = r .next; links = r .links })
 holds-remove cs r t p q h tl ql pl same = record {

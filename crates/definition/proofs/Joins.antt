@@ -12,7 +12,7 @@ use lib.Seq.{getD-set-same, getD-set-other}
 use borrow.Author.Tests.{eq-eqb, ne-eqb}
 use Rattle.definition.specs.Lists.{isIn, meet, without, concat}
 use Rattle.definition.specs.Components.{sizeOf, meeting, larger, largest, sourcesOf, gathered, emptied, joined}
-use Rattle.definition.specs.Connectivity.{occurrences, Member, NoRepeats, Rearranged, joinBins, poured}
+use Rattle.definition.specs.Connectivity.{occurrences, Member, NoRepeats, Rearranged, replayJoin, joinedMembers}
 use Rattle.definition.proofs.Counting.{same-or-not, member-or-not, one-here, none-here, member-head, member-tail, member-cons, member-isIn, absent-isIn, or-true, occurrences-append, occurrences-set}
 use Rattle.definition.proofs.Steps.{cond-yes, cond-no}
 
@@ -184,20 +184,20 @@ emptied-out (s ∷ ss) cs c e =
     (λ n. let f = none-here c s ss n in emptied-out ss (set cs s []) c (omega arith) ∙ getD-set-other cs s c [] [] n)
     (same-or-not c s)
 
-pub gathered-poured : (cs : List (List ℕ)) (ss : List ℕ) → gathered cs ss ≡ poured (λ c. getD cs c []) ss
-gathered-poured cs [] = refl
-gathered-poured cs (s ∷ ss) = ap (λ (l : List ℕ). getD cs s [] ++ l) (gathered-poured cs ss)
+pub gathered-joined : (cs : List (List ℕ)) (ss : List ℕ) → gathered cs ss ≡ joinedMembers (λ c. getD cs c []) ss
+gathered-joined cs [] = refl
+gathered-joined cs (s ∷ ss) = ap (λ (l : List ℕ). getD cs s [] ++ l) (gathered-joined cs ss)
 
 -- the component i after a join, as the replay has it
 pub joined-is : (cs : List (List ℕ)) (ss : List ℕ) (i : ℕ) → NoRepeats ss → ((c : ℕ) → Member c ss → c < length cs)
-    → getD (joined cs ss) i [] ≡ joinBins ss (λ c. getD cs c []) i
+    → getD (joined cs ss) i [] ≡ replayJoin ss (λ c. getD cs c []) i
 unfolding joined
 joined-is cs [] i once small = refl
 joined-is cs (t ∷ others) i once small =
     ⊎-elim
     (λ e. ap (λ (k : ℕ). getD (set (emptied others cs) t (gathered cs (t ∷ others))) k []) e
     ∙ getD-set-same (emptied others cs) t (gathered cs (t ∷ others)) [] (subst (λ (n : ℕ). t < n) (sym (length-emptied others cs)) (small t (member-head t others)))
-    ∙ gathered-poured cs (t ∷ others)
+    ∙ gathered-joined cs (t ∷ others)
     ∙ sym (cond-yes (eqb i t) _ _ (eq-eqb i t e)))
     (λ n. getD-set-other (emptied others cs) t i (gathered cs (t ∷ others)) [] n
     ∙ ⊎-elim
@@ -209,8 +209,8 @@ joined-is cs (t ∷ others) i once small =
 
 -- the component i after a join is the target with all members, another source with none, or as it was
 pub join-cases : (b : ℕ → List ℕ) (ss : List ℕ) (i : ℕ)
-    → ((Member i ss × (i ≡ getD ss 0 0)) × (joinBins ss b i ≡ poured b ss))
-    ⊎ ((Member i ss × (joinBins ss b i ≡ [])) ⊎ ((occurrences i ss ≡ 0) × (joinBins ss b i ≡ b i)))
+    → ((Member i ss × (i ≡ getD ss 0 0)) × (replayJoin ss b i ≡ joinedMembers b ss))
+    ⊎ ((Member i ss × (replayJoin ss b i ≡ [])) ⊎ ((occurrences i ss ≡ 0) × (replayJoin ss b i ≡ b i)))
 join-cases b [] i = inr (inr (refl, refl))
 join-cases b (t ∷ others) i =
     ⊎-elim
@@ -222,7 +222,7 @@ join-cases b (t ∷ others) i =
     (same-or-not i t)
 
 -- the first source takes all
-pub join-target : (b : ℕ → List ℕ) (ss : List ℕ) (c : ℕ) → Member c ss → joinBins ss b (getD ss 0 0) ≡ poured b ss
+pub join-target : (b : ℕ → List ℕ) (ss : List ℕ) (c : ℕ) → Member c ss → replayJoin ss b (getD ss 0 0) ≡ joinedMembers b ss
 join-target b [] c h = absurd (omega arith)
 join-target b (t ∷ others) c h = cond-yes (eqb t t) _ _ (eq-eqb t t refl)
 

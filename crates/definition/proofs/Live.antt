@@ -12,7 +12,7 @@ use lib.Seq.{getD-set-same, getD-set-other}
 use borrow.Author.Tests.{eq-eqb, ne-eqb}
 use Rattle.definition.specs.Lists.{placeOf, removeAt, numbersFrom, total, concat}
 use Rattle.definition.specs.Components.{amplitudes, liveDimension}
-use Rattle.definition.specs.Connectivity.{occurrences, Member, NoRepeats, Rearranged, keep, Roll, classOf, setsOf, liveAt}
+use Rattle.definition.specs.Connectivity.{occurrences, Member, NoRepeats, Rearranged, keep, ActiveOrder, classOf, setsOf, liveAt}
 use Rattle.definition.proofs.Counting.{same-or-not, member-or-not, none-here, member-head, occurrences-append, occurrences-set, occurrences-listed, occurrences-two, member-listed, place-below, place-holds, occurrences-removeAt, length-removeAt}
 
 -- ---- lists that hold the same numbers
@@ -306,7 +306,7 @@ live-classes f n order cs r once below same =
         same a b (ra .1) (rb .1) .1 (ra .0 ∙ sym (rb .0))
 
 -- the live dimension of components that hold the roll's entries class by class is that of the roll
-pub live-is : (r : Roll) (cs : List (List ℕ)) → Rearranged (concat cs) (r .order) → NoRepeats (r .order)
+pub live-is : (r : ActiveOrder) (cs : List (List ℕ)) → Rearranged (concat cs) (r .order) → NoRepeats (r .order)
     → ((a : ℕ) → Member a (r .order) → classOf (r .links) a < r .next)
     → ((a b : ℕ) → Member a (r .order) → Member b (r .order) → SameList cs a b ↔ (classOf (r .links) a ≡ classOf (r .links) b))
     → liveDimension cs ≡ liveAt r

@@ -10,12 +10,12 @@ use lib.Seq.{getD-set-same, getD-set-other}
 use Rattle.records.specs.declared.Instruction.{Instruction}
 use Rattle.definition.specs.Lists.{removeAt, placeOf, numbersFrom}
 use Rattle.definition.specs.Walk.{Walk, joinOf, localAction, start, noStep, ignoredStep, promotionStep, rotationStep, measurementStep}
-use Rattle.definition.specs.Connectivity.{Roll}
+use Rattle.definition.specs.Connectivity.{ActiveOrder}
 use Rattle.definition.proofs.Counting.{same-or-not, length-removeAt, place-below}
 use Rattle.definition.proofs.Steps.{Stepped, ignored, rotated, promoted, measured, recorded, detected, expected, branched}
 use Rattle.definition.proofs.Joins.{join-cases}
 use Rattle.definition.proofs.Invariant.{after-join, snoc-at}
-use Rattle.definition.proofs.Tracking.{Tracked, rollOf, tracked-here, target-below, target-members, join-length, measurement-keeps}
+use Rattle.definition.proofs.Tracking.{Tracked, activeOf, tracked-here, target-below, target-members, join-length, measurement-keeps}
 use Rattle.definition.proofs.Replay.{joinedComponents}
 
 abbrev pub sizeAt : List (List ℕ) → ℕ → ℕ
@@ -38,12 +38,12 @@ start-long k i = alone 0 k i
     alone a (suc n) zero = refl
     alone a (suc n) (suc c) = alone (suc a) n c
 
-module _ (w : Walk) (r : Roll) (t : Tracked w r) (long : Long w) (x z : ℕ) (active : 0 < length (w .order)) where
+module _ (w : Walk) (r : ActiveOrder) (t : Tracked w r) (long : Long w) (x z : ℕ) (active : 0 < length (w .order)) where
   -- a component that is not the target does not grow by a join
   join-small : (i : ℕ) → (i ≡ joinOf x z w .component → ⊥) → sizeAt (joinOf x z w .components) i ≤ sizeAt (w .components) i
   unfolding joinOf
   join-small i n =
-      let e = after-join (w .components) (rollOf w r) (tracked-here w r t) x z i in
+      let e = after-join (w .components) (activeOf w r) (tracked-here w r t) x z i in
       ⊎-elim
       (λ c. absurd (n (c .0 .1)))
       (λ rest. ⊎-elim
@@ -70,7 +70,7 @@ module _ (w : Walk) (r : Roll) (t : Tracked w r) (long : Long w) (x z : ℕ) (ac
       ∙ (let s = join-small i n in let l = long i in omega arith))
       (same-or-not i (j .component))
 
-pub step-long : {limit : ℕ} {w v : Walk} {i : Instruction} (r : Roll) (s : Stepped limit w i v) → Tracked w r → Long w → LongStep w (joinedComponents s) v
+pub step-long : {limit : ℕ} {w v : Walk} {i : Instruction} (r : ActiveOrder) (s : Stepped limit w i v) → Tracked w r → Long w → LongStep w (joinedComponents s) v
 unfolding joinedComponents noStep ignoredStep promotionStep rotationStep measurementStep
 step-long r (ignored x z phase angle sine cosine empty) t long c = let l = long c in omega arith
 step-long {w = w} r (rotated width x z phase angle sine cosine k wide active small fits made) t long c =

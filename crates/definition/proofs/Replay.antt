@@ -16,11 +16,11 @@ use Rattle.records.specs.declared.Instruction.{Instruction}
 use Rattle.definition.specs.Lists.{isIn, removeAt, numbersFrom, concat}
 use Rattle.definition.specs.Walk.{Walk, Join, joinOf, start, noStep, ignoredStep, promotionStep, rotationStep, measurementStep, rowHead, rotationRow, measurementRow}
 use Rattle.definition.specs.Plan.{Plan, planFrom}
-use Rattle.definition.specs.Connectivity.{Roll, rollStep, Bins, poured, joinBins, kindAt, payloadAt, rowAt, rotationAt, measurementAt, listedBy, joinedBy, openBin, dropMember, changedBy, binsJoined, binsAfter}
+use Rattle.definition.specs.Connectivity.{ActiveOrder, activeStep, Replayed, joinedMembers, replayJoin, kindAt, payloadAt, rowAt, rotationAt, measurementAt, listedBy, joinedBy, replayPromotion, dropMember, changedBy, replayJoined, replayAfter}
 use Rattle.definition.proofs.Counting.{same-or-not}
 use Rattle.definition.proofs.Steps.{cond-yes, cond-no, Stepped, ignored, rotated, promoted, measured, recorded, detected, expected, branched, Run, done, more}
 use Rattle.definition.proofs.Invariant.{after-join, snoc-at}
-use Rattle.definition.proofs.Tracking.{Tracked, rollOf, tracked-here, target-below, target-members, join-length, step-tracked}
+use Rattle.definition.proofs.Tracking.{Tracked, activeOf, tracked-here, target-below, target-members, join-length, step-tracked}
 use Rattle.definition.proofs.Growth.{Extends, Grown, AllOf, row-at, extends-length, grown-trans, run-grown, step-steps}
 
 -- ---- what was appended stands in the longer list
@@ -54,14 +54,14 @@ seam-row n xs zs row wide e = row-at n zs (length xs) wide (seam-below xs zs row
 
 -- ---- bins that agree are joined alike
 
-poured-same : (b d : Bins) → ((i : ℕ) → b i ≡ d i) → (ss : List ℕ) → poured b ss ≡ poured d ss
-poured-same b d e [] = refl
-poured-same b d e (s ∷ ss) = ap₂ (λ (x y : List ℕ). x ++ y) (e s) (poured-same b d e ss)
+joined-members-same : (b d : Replayed) → ((i : ℕ) → b i ≡ d i) → (ss : List ℕ) → joinedMembers b ss ≡ joinedMembers d ss
+joined-members-same b d e [] = refl
+joined-members-same b d e (s ∷ ss) = ap₂ (λ (x y : List ℕ). x ++ y) (e s) (joined-members-same b d e ss)
 
-joined-same : (b d : Bins) → ((i : ℕ) → b i ≡ d i) → (ss : List ℕ) (i : ℕ) → joinBins ss b i ≡ joinBins ss d i
+joined-same : (b d : Replayed) → ((i : ℕ) → b i ≡ d i) → (ss : List ℕ) (i : ℕ) → replayJoin ss b i ≡ replayJoin ss d i
 joined-same b d e [] i = e i
 joined-same b d e (t ∷ others) i =
-    ap₂ (λ (x y : List ℕ). cond (eqb i t) x (cond (isIn i others) [] y)) (poured-same b d e (t ∷ others)) (e i)
+    ap₂ (λ (x y : List ℕ). cond (eqb i t) x (cond (isIn i others) [] y)) (joined-members-same b d e (t ∷ others)) (e i)
 
 -- ---- one step of the replay
 
@@ -81,8 +81,8 @@ module _ (initial densePeak : ℕ) (u : Walk) (rotations-wide : AllOf 21 (u .wri
   plan = planFrom initial densePeak u
 
   -- the replay after m records has the walk's components
-  abbrev pub BinsAre : ℕ → Walk → Type 0
-  BinsAre m w = (i : ℕ) → binsAfter plan m i ≡ getD (w .components) i []
+  abbrev pub ReplayIs : ℕ → Walk → Type 0
+  ReplayIs m w = (i : ℕ) → replayAfter plan m i ≡ getD (w .components) i []
 
   -- the kind and the payload that a step wrote
   wrote-kind : (m kind payload : ℕ) (written : List ℕ) → length written ≡ 2 * m → Extends (written ++ (kind ∷ payload ∷ [])) (u .written .steps) → kindAt plan m ≡ kind
@@ -141,75 +141,75 @@ module _ (initial densePeak : ℕ) (u : Walk) (rotations-wide : AllOf 21 (u .wri
 
   -- ---- just after the join of record m
 
-  bins-join : (m : ℕ) (w : Walk) (r : Roll) (x z : ℕ) → Tracked w r → BinsAre m w → (i : ℕ) → joinBins (joinOf x z w .sources) (binsAfter plan m) i ≡ getD (joinOf x z w .components) i []
+  replay-join : (m : ℕ) (w : Walk) (r : ActiveOrder) (x z : ℕ) → Tracked w r → ReplayIs m w → (i : ℕ) → replayJoin (joinOf x z w .sources) (replayAfter plan m) i ≡ getD (joinOf x z w .components) i []
   unfolding joinOf
-  bins-join m w r x z t bins i =
-      joined-same (binsAfter plan m) (λ c. getD (w .components) c []) bins (joinOf x z w .sources) i
-      ∙ sym (after-join (w .components) (rollOf w r) (tracked-here w r t) x z i)
+  replay-join m w r x z t replay i =
+      joined-same (replayAfter plan m) (λ c. getD (w .components) c []) replay (joinOf x z w .sources) i
+      ∙ sym (after-join (w .components) (activeOf w r) (tracked-here w r t) x z i)
 
   -- a step of a kind that joins nothing leaves the bins
-  unjoined : (m kind : ℕ) (w : Walk) → kindAt plan m ≡ kind → (eqb kind 2 ≡ false) → (eqb kind 4 ≡ false) → BinsAre m w → (i : ℕ)
-      → binsJoined plan m (binsAfter plan m) i ≡ getD (w .components) i []
-  unfolding binsJoined
-  unjoined m kind w e a b bins i =
-      ap (λ (n : ℕ). joinedBy n plan m (binsAfter plan m) i) e
-      ∙ ap (λ (f : Bins). f i) (cond-no (eqb kind 2) _ _ a ∙ cond-no (eqb kind 4) _ _ b) ∙ bins i
+  unjoined : (m kind : ℕ) (w : Walk) → kindAt plan m ≡ kind → (eqb kind 2 ≡ false) → (eqb kind 4 ≡ false) → ReplayIs m w → (i : ℕ)
+      → replayJoined plan m (replayAfter plan m) i ≡ getD (w .components) i []
+  unfolding replayJoined
+  unjoined m kind w e a b replay i =
+      ap (λ (n : ℕ). joinedBy n plan m (replayAfter plan m) i) e
+      ∙ ap (λ (f : Replayed). f i) (cond-no (eqb kind 2) _ _ a ∙ cond-no (eqb kind 4) _ _ b) ∙ replay i
 
-  pub step-joined : {limit : ℕ} {w v : Walk} {i : Instruction} (m : ℕ) (r : Roll) (s : Stepped limit w i v) → length (w .written .steps) ≡ 2 * m → Grown (v .written) (u .written)
-      → Tracked w r → BinsAre m w → (c : ℕ) → binsJoined plan m (binsAfter plan m) c ≡ getD (joinedComponents s) c []
-  unfolding joinedComponents binsJoined noStep ignoredStep promotionStep
-  step-joined {w = w} m r (ignored x z phase angle sine cosine empty) l g t bins c = unjoined m 1 w (wrote-kind m 1 0 (w .written .steps) l (g .steps)) refl refl bins c
-  step-joined {w = w} m r (rotated width x z phase angle sine cosine k wide active small fits made) l g t bins c =
-      ap (λ (n : ℕ). joinedBy n plan m (binsAfter plan m) c) (rotation-kind m w (joinOf x z w) k l g)
-      ∙ ap (λ (ss : List ℕ). joinBins ss (binsAfter plan m) c) (rotation-listed m w (joinOf x z w) k l g)
-      ∙ bins-join m w r x z t bins c
-  step-joined {w = w} m r promoted l g t bins c = unjoined m 3 w (wrote-kind m 3 (length (w .written .promotions)) (w .written .steps) l (g .steps)) refl refl bins c
-  step-joined {w = w} m r (measured width x z phase pivot k wide active small fits below inside made) l g t bins c =
-      ap (λ (n : ℕ). joinedBy n plan m (binsAfter plan m) c) (measurement-kind m w (joinOf x z w) pivot k l g)
-      ∙ ap (λ (ss : List ℕ). joinBins ss (binsAfter plan m) c) (measurement-listed m w (joinOf x z w) pivot k l g)
-      ∙ bins-join m w r x z t bins c
-  step-joined {w = w} m r recorded l g t bins c = unjoined m 0 w (wrote-kind m 0 0 (w .written .steps) l (g .steps)) refl refl bins c
-  step-joined {w = w} m r detected l g t bins c = unjoined m 0 w (wrote-kind m 0 0 (w .written .steps) l (g .steps)) refl refl bins c
-  step-joined {w = w} m r expected l g t bins c = unjoined m 0 w (wrote-kind m 0 0 (w .written .steps) l (g .steps)) refl refl bins c
-  step-joined {w = w} m r branched l g t bins c = unjoined m 0 w (wrote-kind m 0 0 (w .written .steps) l (g .steps)) refl refl bins c
+  pub step-joined : {limit : ℕ} {w v : Walk} {i : Instruction} (m : ℕ) (r : ActiveOrder) (s : Stepped limit w i v) → length (w .written .steps) ≡ 2 * m → Grown (v .written) (u .written)
+      → Tracked w r → ReplayIs m w → (c : ℕ) → replayJoined plan m (replayAfter plan m) c ≡ getD (joinedComponents s) c []
+  unfolding joinedComponents replayJoined noStep ignoredStep promotionStep
+  step-joined {w = w} m r (ignored x z phase angle sine cosine empty) l g t replay c = unjoined m 1 w (wrote-kind m 1 0 (w .written .steps) l (g .steps)) refl refl replay c
+  step-joined {w = w} m r (rotated width x z phase angle sine cosine k wide active small fits made) l g t replay c =
+      ap (λ (n : ℕ). joinedBy n plan m (replayAfter plan m) c) (rotation-kind m w (joinOf x z w) k l g)
+      ∙ ap (λ (ss : List ℕ). replayJoin ss (replayAfter plan m) c) (rotation-listed m w (joinOf x z w) k l g)
+      ∙ replay-join m w r x z t replay c
+  step-joined {w = w} m r promoted l g t replay c = unjoined m 3 w (wrote-kind m 3 (length (w .written .promotions)) (w .written .steps) l (g .steps)) refl refl replay c
+  step-joined {w = w} m r (measured width x z phase pivot k wide active small fits below inside made) l g t replay c =
+      ap (λ (n : ℕ). joinedBy n plan m (replayAfter plan m) c) (measurement-kind m w (joinOf x z w) pivot k l g)
+      ∙ ap (λ (ss : List ℕ). replayJoin ss (replayAfter plan m) c) (measurement-listed m w (joinOf x z w) pivot k l g)
+      ∙ replay-join m w r x z t replay c
+  step-joined {w = w} m r recorded l g t replay c = unjoined m 0 w (wrote-kind m 0 0 (w .written .steps) l (g .steps)) refl refl replay c
+  step-joined {w = w} m r detected l g t replay c = unjoined m 0 w (wrote-kind m 0 0 (w .written .steps) l (g .steps)) refl refl replay c
+  step-joined {w = w} m r expected l g t replay c = unjoined m 0 w (wrote-kind m 0 0 (w .written .steps) l (g .steps)) refl refl replay c
+  step-joined {w = w} m r branched l g t replay c = unjoined m 0 w (wrote-kind m 0 0 (w .written .steps) l (g .steps)) refl refl replay c
 
   -- ---- after record m
 
   unchanged : (m kind : ℕ) → kindAt plan m ≡ kind → (eqb kind 3 ≡ false) → (eqb kind 4 ≡ false) → (c : ℕ)
-      → binsAfter plan (suc m) c ≡ binsJoined plan m (binsAfter plan m) c
-  unfolding binsAfter
+      → replayAfter plan (suc m) c ≡ replayJoined plan m (replayAfter plan m) c
+  unfolding replayAfter
   unchanged m kind e a b c =
-      ap (λ (n : ℕ). changedBy n plan m (binsJoined plan m (binsAfter plan m)) c) e
-      ∙ ap (λ (f : Bins). f c) (cond-no (eqb kind 3) _ _ a ∙ cond-no (eqb kind 4) _ _ b)
+      ap (λ (n : ℕ). changedBy n plan m (replayJoined plan m (replayAfter plan m)) c) e
+      ∙ ap (λ (f : Replayed). f c) (cond-no (eqb kind 3) _ _ a ∙ cond-no (eqb kind 4) _ _ b)
 
-  promoted-bins : (m : ℕ) (w : Walk) → kindAt plan m ≡ 3 → getD (plan .promotions) (payloadAt plan m) 0 ≡ length (w .components)
-      → ((c : ℕ) → binsJoined plan m (binsAfter plan m) c ≡ getD (w .components) c [])
-      → (c : ℕ) → binsAfter plan (suc m) c ≡ getD (w .components ++ ((length (w .components) ∷ []) ∷ [])) c []
-  unfolding binsAfter
-  promoted-bins m w kind named bins c =
-      ap (λ (n : ℕ). changedBy n plan m (binsJoined plan m (binsAfter plan m)) c) kind
-      ∙ ap (λ (n : ℕ). openBin n (binsJoined plan m (binsAfter plan m)) c) named
+  promoted-replay : (m : ℕ) (w : Walk) → kindAt plan m ≡ 3 → getD (plan .promotions) (payloadAt plan m) 0 ≡ length (w .components)
+      → ((c : ℕ) → replayJoined plan m (replayAfter plan m) c ≡ getD (w .components) c [])
+      → (c : ℕ) → replayAfter plan (suc m) c ≡ getD (w .components ++ ((length (w .components) ∷ []) ∷ [])) c []
+  unfolding replayAfter
+  promoted-replay m w kind named replay c =
+      ap (λ (n : ℕ). changedBy n plan m (replayJoined plan m (replayAfter plan m)) c) kind
+      ∙ ap (λ (n : ℕ). replayPromotion n (replayJoined plan m (replayAfter plan m)) c) named
       ∙ ⊎-elim
-      (λ o. cond-no (eqb c (length (w .components))) _ _ (ne-eqb c (length (w .components)) (λ e. omega (arith, o .0, e))) ∙ bins c ∙ sym (o .1))
+      (λ o. cond-no (eqb c (length (w .components))) _ _ (ne-eqb c (length (w .components)) (λ e. omega (arith, o .0, e))) ∙ replay c ∙ sym (o .1))
       (λ rest. ⊎-elim
       (λ n. cond-yes (eqb c (length (w .components))) _ _ (eq-eqb c (length (w .components)) (n .0)) ∙ sym (n .1))
       (λ n. cond-no (eqb c (length (w .components))) _ _ (ne-eqb c (length (w .components)) (λ e. omega (arith, n .0, e)))
-      ∙ bins c ∙ List·getD-eq-default (w .components) [] (omega (arith, n .0)) ∙ sym (n .1))
+      ∙ replay c ∙ List·getD-eq-default (w .components) [] (omega (arith, n .0)) ∙ sym (n .1))
       rest)
       (snoc-at [] (w .components) (length (w .components) ∷ []) c)
 
-  measured-bins : (m component local : ℕ) (cs : List (List ℕ)) (members : List ℕ) → kindAt plan m ≡ 4 → getD (measurementAt plan m) 0 0 ≡ component
+  measured-replay : (m component local : ℕ) (cs : List (List ℕ)) (members : List ℕ) → kindAt plan m ≡ 4 → getD (measurementAt plan m) 0 0 ≡ component
       → getD (measurementAt plan m) 11 0 ≡ local → component < length cs → getD cs component [] ≡ members
-      → ((c : ℕ) → binsJoined plan m (binsAfter plan m) c ≡ getD cs c [])
-      → (c : ℕ) → binsAfter plan (suc m) c ≡ getD (set cs component (removeAt local members)) c []
-  unfolding binsAfter
-  measured-bins m component local cs members kind named at inside held bins c =
-      ap (λ (n : ℕ). changedBy n plan m (binsJoined plan m (binsAfter plan m)) c) kind
-      ∙ ap₂ (λ (n q : ℕ). dropMember n q (binsJoined plan m (binsAfter plan m)) c) named at
+      → ((c : ℕ) → replayJoined plan m (replayAfter plan m) c ≡ getD cs c [])
+      → (c : ℕ) → replayAfter plan (suc m) c ≡ getD (set cs component (removeAt local members)) c []
+  unfolding replayAfter
+  measured-replay m component local cs members kind named at inside held replay c =
+      ap (λ (n : ℕ). changedBy n plan m (replayJoined plan m (replayAfter plan m)) c) kind
+      ∙ ap₂ (λ (n q : ℕ). dropMember n q (replayJoined plan m (replayAfter plan m)) c) named at
       ∙ ⊎-elim
-      (λ e. cond-yes (eqb c component) _ _ (eq-eqb c component e) ∙ ap (removeAt local) (bins c ∙ ap (λ (i : ℕ). getD cs i []) e ∙ held)
+      (λ e. cond-yes (eqb c component) _ _ (eq-eqb c component e) ∙ ap (removeAt local) (replay c ∙ ap (λ (i : ℕ). getD cs i []) e ∙ held)
       ∙ sym (ap (λ (i : ℕ). getD (set cs component (removeAt local members)) i []) e ∙ getD-set-same cs component (removeAt local members) [] inside))
-      (λ n. cond-no (eqb c component) _ _ (ne-eqb c component n) ∙ bins c ∙ sym (getD-set-other cs component c (removeAt local members) [] n))
+      (λ n. cond-no (eqb c component) _ _ (ne-eqb c component n) ∙ replay c ∙ sym (getD-set-other cs component c (removeAt local members) [] n))
       (same-or-not c component)
 
   -- the component and the local pivot that a measurement's row names
@@ -221,46 +221,46 @@ module _ (initial densePeak : ℕ) (u : Walk) (rotations-wide : AllOf 21 (u .wri
       let e = measurement-row m w j pivot k l g in
       (ap (λ (row : List ℕ). getD row 0 0) e, ap (λ (row : List ℕ). getD row 11 0) e)
 
-  pub step-bins : {limit : ℕ} {w v : Walk} {i : Instruction} (m : ℕ) (r : Roll) → Stepped limit w i v → length (w .written .steps) ≡ 2 * m → Grown (v .written) (u .written)
-      → Tracked w r → BinsAre m w → BinsAre (suc m) v
+  pub step-replay : {limit : ℕ} {w v : Walk} {i : Instruction} (m : ℕ) (r : ActiveOrder) → Stepped limit w i v → length (w .written .steps) ≡ 2 * m → Grown (v .written) (u .written)
+      → Tracked w r → ReplayIs m w → ReplayIs (suc m) v
   unfolding joinedComponents noStep ignoredStep promotionStep rotationStep measurementStep
-  step-bins {limit = limit} {w = w} m r (ignored x z phase angle sine cosine empty) l g t bins c =
-      unchanged m 1 (wrote-kind m 1 0 (w .written .steps) l (g .steps)) refl refl c ∙ step-joined {limit = limit} m r (ignored x z phase angle sine cosine empty) l g t bins c
-  step-bins {limit = limit} {w = w} m r (rotated width x z phase angle sine cosine k wide active small fits made) l g t bins c =
+  step-replay {limit = limit} {w = w} m r (ignored x z phase angle sine cosine empty) l g t replay c =
+      unchanged m 1 (wrote-kind m 1 0 (w .written .steps) l (g .steps)) refl refl c ∙ step-joined {limit = limit} m r (ignored x z phase angle sine cosine empty) l g t replay c
+  step-replay {limit = limit} {w = w} m r (rotated width x z phase angle sine cosine k wide active small fits made) l g t replay c =
       unchanged m 2 (rotation-kind m w (joinOf x z w) k l g) refl refl c
-      ∙ step-joined {limit = limit} m r (rotated width x z phase angle sine cosine k wide active small fits made) l g t bins c
-  step-bins {limit = limit} {w = w} m r promoted l g t bins c =
-      promoted-bins m w (wrote-kind m 3 (length (w .written .promotions)) (w .written .steps) l (g .steps)) (promotion-named m w l g) (step-joined {limit = limit} m r promoted l g t bins) c
-  step-bins {limit = limit} {w = w} m r (measured width x z phase pivot k wide active small fits below inside made) l g t bins c =
+      ∙ step-joined {limit = limit} m r (rotated width x z phase angle sine cosine k wide active small fits made) l g t replay c
+  step-replay {limit = limit} {w = w} m r promoted l g t replay c =
+      promoted-replay m w (wrote-kind m 3 (length (w .written .promotions)) (w .written .steps) l (g .steps)) (promotion-named m w l g) (step-joined {limit = limit} m r promoted l g t replay) c
+  step-replay {limit = limit} {w = w} m r (measured width x z phase pivot k wide active small fits below inside made) l g t replay c =
       let j = joinOf x z w in
       let named = measurement-named m w j pivot k l g in
-      measured-bins m (j .component) (k .pivot) (j .components) (j .members) (measurement-kind m w j pivot k l g) (named .0) (named .1)
+      measured-replay m (j .component) (k .pivot) (j .components) (j .members) (measurement-kind m w j pivot k l g) (named .0) (named .1)
       (subst (λ (n : ℕ). j .component < n) (sym (join-length w r t x z active)) (target-below w r t x z active))
       (target-members w r t x z active)
-      (step-joined {limit = limit} m r (measured width x z phase pivot k wide active small fits below inside made) l g t bins) c
-  step-bins {limit = limit} {w = w} m r recorded l g t bins c = unchanged m 0 (wrote-kind m 0 0 (w .written .steps) l (g .steps)) refl refl c ∙ step-joined {limit = limit} m r recorded l g t bins c
-  step-bins {limit = limit} {w = w} m r detected l g t bins c = unchanged m 0 (wrote-kind m 0 0 (w .written .steps) l (g .steps)) refl refl c ∙ step-joined {limit = limit} m r detected l g t bins c
-  step-bins {limit = limit} {w = w} m r expected l g t bins c = unchanged m 0 (wrote-kind m 0 0 (w .written .steps) l (g .steps)) refl refl c ∙ step-joined {limit = limit} m r expected l g t bins c
-  step-bins {limit = limit} {w = w} m r branched l g t bins c = unchanged m 0 (wrote-kind m 0 0 (w .written .steps) l (g .steps)) refl refl c ∙ step-joined {limit = limit} m r branched l g t bins c
+      (step-joined {limit = limit} m r (measured width x z phase pivot k wide active small fits below inside made) l g t replay) c
+  step-replay {limit = limit} {w = w} m r recorded l g t replay c = unchanged m 0 (wrote-kind m 0 0 (w .written .steps) l (g .steps)) refl refl c ∙ step-joined {limit = limit} m r recorded l g t replay c
+  step-replay {limit = limit} {w = w} m r detected l g t replay c = unchanged m 0 (wrote-kind m 0 0 (w .written .steps) l (g .steps)) refl refl c ∙ step-joined {limit = limit} m r detected l g t replay c
+  step-replay {limit = limit} {w = w} m r expected l g t replay c = unchanged m 0 (wrote-kind m 0 0 (w .written .steps) l (g .steps)) refl refl c ∙ step-joined {limit = limit} m r expected l g t replay c
+  step-replay {limit = limit} {w = w} m r branched l g t replay c = unchanged m 0 (wrote-kind m 0 0 (w .written .steps) l (g .steps)) refl refl c ∙ step-joined {limit = limit} m r branched l g t replay c
 
   -- a run of the walk is followed by the replay
-  pub run-bins : {limit : ℕ} {w v : Walk} {is : List Instruction} (m : ℕ) (r : Roll) → Run limit w is v → Grown (v .written) (u .written) → length (w .written .steps) ≡ 2 * m
-      → Tracked w r → BinsAre m w → BinsAre (m + length is) v
-  run-bins m r (done w) g l t bins c = ap (λ (n : ℕ). binsAfter plan n c) (omega arith) ∙ bins c
-  run-bins m r (more {i = i} {is = is} s rest) g l t bins c =
+  pub run-replay : {limit : ℕ} {w v : Walk} {is : List Instruction} (m : ℕ) (r : ActiveOrder) → Run limit w is v → Grown (v .written) (u .written) → length (w .written .steps) ≡ 2 * m
+      → Tracked w r → ReplayIs m w → ReplayIs (m + length is) v
+  run-replay m r (done w) g l t replay c = ap (λ (n : ℕ). replayAfter plan n c) (omega arith) ∙ replay c
+  run-replay m r (more {i = i} {is = is} s rest) g l t replay c =
       let mid = grown-trans (run-grown rest) g in
       let steps = step-steps s in
-      ap (λ (n : ℕ). binsAfter plan n c) (omega arith)
-      ∙ run-bins (suc m) (rollStep r i) rest g (omega arith) (step-tracked r s t) (step-bins m r s l mid t bins) c
+      ap (λ (n : ℕ). replayAfter plan n c) (omega arith)
+      ∙ run-replay (suc m) (activeStep r i) rest g (omega arith) (step-tracked r s t) (step-replay m r s l mid t replay) c
 
-alone-bins : (n a c : ℕ) → cond (ltb c n) ((a + c) ∷ []) [] ≡ getD (map (λ d. d ∷ []) (numbersFrom a n)) c []
-alone-bins zero a c = cond-no (ltb c 0) _ _ (le-ltb c 0 (omega arith))
-alone-bins (suc n) a zero = cond-yes (ltb 0 (suc n)) _ _ (lt-ltb 0 (suc n) (omega arith)) ∙ ap (λ (k : ℕ). k ∷ []) (omega arith)
-alone-bins (suc n) a (suc c) =
-    ap₂ (λ (t : Bool) (k : ℕ). cond t (k ∷ []) []) (leb·suc-suc (suc c) n) (omega arith) ∙ alone-bins n (suc a) c
+alone-replay : (n a c : ℕ) → cond (ltb c n) ((a + c) ∷ []) [] ≡ getD (map (λ d. d ∷ []) (numbersFrom a n)) c []
+alone-replay zero a c = cond-no (ltb c 0) _ _ (le-ltb c 0 (omega arith))
+alone-replay (suc n) a zero = cond-yes (ltb 0 (suc n)) _ _ (lt-ltb 0 (suc n) (omega arith)) ∙ ap (λ (k : ℕ). k ∷ []) (omega arith)
+alone-replay (suc n) a (suc c) =
+    ap₂ (λ (t : Bool) (k : ℕ). cond t (k ∷ []) []) (leb·suc-suc (suc c) n) (omega arith) ∙ alone-replay n (suc a) c
 
 -- the replay starts with the walk's start
-pub start-bins : (initial densePeak : ℕ) (u : Walk) (rotations-wide : AllOf 21 (u .written .rotations)) (measurements-wide : AllOf 19 (u .written .measurements))
-    → BinsAre initial densePeak u rotations-wide measurements-wide 0 (start initial)
-unfolding start binsAfter planFrom
-start-bins initial densePeak u rw mw c = ap (λ (k : ℕ). cond (ltb c initial) (k ∷ []) []) (omega arith) ∙ alone-bins initial 0 c
+pub start-replay : (initial densePeak : ℕ) (u : Walk) (rotations-wide : AllOf 21 (u .written .rotations)) (measurements-wide : AllOf 19 (u .written .measurements))
+    → ReplayIs initial densePeak u rotations-wide measurements-wide 0 (start initial)
+unfolding start replayAfter planFrom
+start-replay initial densePeak u rw mw c = ap (λ (k : ℕ). cond (ltb c initial) (k ∷ []) []) (omega arith) ∙ alone-replay initial 0 c

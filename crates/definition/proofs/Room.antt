@@ -10,7 +10,7 @@ use Prim.Native.Nat.{ℕ, zero, suc, _+_, _-_, _*_, _/_, _^_, _≤_, _<_}
 use native.Mathlib.Nat.{mul-le-mul-left, mul-le-mul-right, eq-zero-or-pos}
 use native.Mathlib.Omega.{arith}
 use lib.Dec.{eqb, ltb}
-use lib.ListN.{length, getD, set, length-set, length-append, length-map}
+use lib.ListN.{length, getD, set, length-set, length-append, length-map, replicate, length-replicate}
 use lib.Seq.{getD-set-other, take-length}
 use lib.Pow.{pow-mono, pow-add}
 use borrow.Author.Tests.{ltb-false, ne-eqb}
@@ -26,15 +26,15 @@ use Rattle.records.proofs.Laws.{passed-sound, passed-coordinates, instructions-
 use Rattle.definition.specs.Lists.{removeAt, numbersFrom, total, concat}
 use Rattle.definition.specs.Components.{gathered, emptied, joined, amplitudes, liveDimension}
 use Rattle.definition.specs.Walk.{Written, Walk, Join, joinOf, rotationRow, measurementRow, start, noStep, ignoredStep, promotionStep, rotationStep, measurementStep}
-use Rattle.definition.specs.Plan.{Lengths, Plan, planned, unread, unreadPlan, groupsOf, planFrom, buffersRefused, forDensePeak, planOf}
-use Rattle.definition.specs.Connectivity.{occurrences, Member, NoRepeats, Roll, rollStart, rollStep, rollAfter, isPromotion}
+use Rattle.definition.specs.Plan.{Lengths, Plan, planned, unread, unreadPlan, groupsOf, planFrom, buffersRefused, forDensePeak, planOf, Result, refusedAt, padded, heldAfter}
+use Rattle.definition.specs.Connectivity.{occurrences, Member, NoRepeats, ActiveOrder, activeStart, activeStep, activeAfter, isPromotion}
 use Rattle.definition.specs.Laws.{Fits, FitsIn}
 use Rattle.definition.proofs.Counting.{same-or-not, one-here, none-here, member-head, member-tail, length-removeAt, length-numbers}
 use Rattle.definition.proofs.Steps.{cond-yes, cond-no, Stepped, ignored, rotated, promoted, measured, recorded, detected, expected, branched, Run, done, more}
 use Rattle.definition.proofs.Joins.{length-emptied, length-joined, emptied-out, gathered-holds}
 use Rattle.definition.proofs.Live.{rearranged-length}
 use Rattle.definition.proofs.Invariant.{Holds, sources-once, source-below, source-holds}
-use Rattle.definition.proofs.Tracking.{join-peak-is, Tracked, rollOf, tracked-here, tracked-join, target-source, target-below, target-members, start-tracked, step-tracked, run-tracked}
+use Rattle.definition.proofs.Tracking.{join-peak-is, Tracked, activeOf, tracked-here, tracked-join, target-source, target-below, target-members, start-tracked, step-tracked, run-tracked}
 use Rattle.definition.proofs.Accepted.{Accepted, accepted}
 use Rattle.definition.proofs.Growth.{rowCount, run-rows, run-steps, run-rotations, run-measurements, start-wide, length-concat}
 
@@ -163,16 +163,16 @@ live-below ((a ∷ m) ∷ cs) =
     (most, λ e. absurd (omega arith))
 
 -- where the components hold the active coordinates
-pub holds-live : (cs : List (List ℕ)) (r : Roll) → Holds cs r → liveDimension cs ≤ 2 ^ length (r .order)
+pub holds-live : (cs : List (List ℕ)) (r : ActiveOrder) → Holds cs r → liveDimension cs ≤ 2 ^ length (r .order)
 unfolding liveDimension
 holds-live cs r h = subst (λ (n : ℕ). total (map amplitudes cs) ≤ 2 ^ n) (rearranged-length (concat cs) (r .order) (h .held)) (live-below cs .0)
 
 -- at most 62 of them
-narrow-live : (cs : List (List ℕ)) (r : Roll) → Holds cs r → length (r .order) ≤ 62 → liveDimension cs ≤ 2 ^ 62
+narrow-live : (cs : List (List ℕ)) (r : ActiveOrder) → Holds cs r → length (r .order) ≤ 62 → liveDimension cs ≤ 2 ^ 62
 narrow-live cs r h narrow = let l = holds-live cs r h in let p = pow-mono narrow in omega arith
 
 -- in a state of the walk
-tracked-live : (w : Walk) (r : Roll) → Tracked w r → length (w .order) ≤ 62 → liveDimension (w .components) ≤ 2 ^ 62
+tracked-live : (w : Walk) (r : ActiveOrder) → Tracked w r → length (w .order) ≤ 62 → liveDimension (w .components) ≤ 2 ^ 62
 tracked-live w r t narrow = narrow-live (w .components) r (t .holds) (let e = ap length (t .order-same) in omega arith)
 
 -- ---- what a join keeps
@@ -201,19 +201,19 @@ unfolding joinOf
 join-size x z w = length-joined (w .components) (joinOf x z w .sources)
 
 -- its peak counts the joined components
-module _ (w : Walk) (r : Roll) (t : Tracked w r) (x z : ℕ) (active : 0 < length (w .order)) where
+module _ (w : Walk) (r : ActiveOrder) (t : Tracked w r) (x z : ℕ) (active : 0 < length (w .order)) where
   -- a source has members
   source-filled : (c : ℕ) → Member c (joinOf x z w .sources) → filled (getD (w .components) c []) ≡ 1
   unfolding joinOf
   source-filled c m =
-      let s = source-holds (w .components) (rollOf w r) (tracked-here w r t) x z c m .1 in member-filled (s .0) (getD (w .components) c []) (s .2)
+      let s = source-holds (w .components) (activeOf w r) (tracked-here w r t) x z c m .1 in member-filled (s .0) (getD (w .components) c []) (s .2)
 
   -- so has the target then
   pub members-filled : filled (joinOf x z w .members) ≡ 1
   unfolding joinOf
   members-filled =
       let m = target-source w r t x z active in
-      let s = source-holds (w .components) (rollOf w r) (tracked-here w r t) x z (joinOf x z w .component) m .1 in
+      let s = source-holds (w .components) (activeOf w r) (tracked-here w r t) x z (joinOf x z w .component) m .1 in
       member-filled (s .0) (joinOf x z w .members) (gathered-holds (w .components) (joinOf x z w .sources) (s .0) (joinOf x z w .component) m (s .2))
 
   -- of the sources one is left with members
@@ -221,7 +221,7 @@ module _ (w : Walk) (r : Roll) (t : Tracked w r) (x z : ℕ) (active : 0 < lengt
   unfolding joinOf
   join-occupied =
       let h = tracked-here w r t in
-      let e = joined-total filled refl (w .components) (joinOf x z w .sources) (sources-once (w .components) (rollOf w r) h x z) (source-below (w .components) (rollOf w r) h x z) in
+      let e = joined-total filled refl (w .components) (joinOf x z w .sources) (sources-once (w .components) (activeOf w r) h x z) (source-below (w .components) (activeOf w r) h x z) in
       let f = shares-filled (w .components) (joinOf x z w .sources) source-filled in
       let g = members-filled in omega arith
 
@@ -230,7 +230,7 @@ module _ (w : Walk) (r : Roll) (t : Tracked w r) (x z : ℕ) (active : 0 < lengt
   unfolding joinOf
   join-some =
       let h = tracked-here w r t in
-      let e = emptied-total filled refl (joinOf x z w .sources) (w .components) (sources-once (w .components) (rollOf w r) h x z) (source-below (w .components) (rollOf w r) h x z) in
+      let e = emptied-total filled refl (joinOf x z w .sources) (w .components) (sources-once (w .components) (activeOf w r) h x z) (source-below (w .components) (activeOf w r) h x z) in
       let f = shares-filled (w .components) (joinOf x z w .sources) source-filled in
       let g = join-occupied in omega arith
 
@@ -278,7 +278,7 @@ start-kept k =
     }
 
 -- an accepted step keeps them
-pub step-kept : {limit : ℕ} {w v : Walk} {i : Instruction} (r : Roll) → Stepped limit w i v → Tracked w r → widthOf i ≤ 62 → Kept w → Kept v
+pub step-kept : {limit : ℕ} {w v : Walk} {i : Instruction} (r : ActiveOrder) → Stepped limit w i v → Tracked w r → widthOf i ≤ 62 → Kept w → Kept v
 unfolding noStep ignoredStep promotionStep rotationStep measurementStep liveDimension
 step-kept r (ignored x z phase angle sine cosine e) t narrow p = record { active = p .active; merges = p .merges; spare = p .spare; peak = p .peak }
 step-kept {w = w} r (rotated width x z phase angle sine cosine k wide active small fits made) t narrow p =
@@ -309,7 +309,7 @@ step-kept {w = w} r (measured width x z phase pivot k wide active small fits bel
     let members = ap filled (target-members w r t x z active) ∙ members-filled w r t x z active in
     let fewer = total-set filled (j .components) (j .component) left there in
     let one = filled-most left in
-    let live = tracked-live (measurementStep w j pivot k) (rollStep r (Measurement width x z phase pivot))
+    let live = tracked-live (measurementStep w j pivot k) (activeStep r (Measurement width x z phase pivot))
     (step-tracked r (measured width x z phase pivot k wide active small fits below inside made) t) (omega arith) in
     record { active = omega (arith, p .active); merges = omega (arith, q .merges); spare = omega (arith, q .spare); peak = omega (arith, q .peak) }
 step-kept r recorded t narrow p = record { active = p .active; merges = p .merges; spare = p .spare; peak = p .peak }
@@ -324,10 +324,10 @@ abbrev pub Narrow : List Instruction → Type 0
 Narrow is = (i : ℕ) → i < length is → widthOf (getD is i DormantBranch) ≤ 62
 
 -- so does a run
-pub run-kept : {limit : ℕ} {w u : Walk} {is : List Instruction} (r : Roll) → Run limit w is u → Tracked w r → Narrow is → Kept w → Kept u
+pub run-kept : {limit : ℕ} {w u : Walk} {is : List Instruction} (r : ActiveOrder) → Run limit w is u → Tracked w r → Narrow is → Kept w → Kept u
 run-kept r (done w) t narrow p = p
 run-kept r (more {i = i} s rest) t narrow p =
-    run-kept (rollStep r i) rest (step-tracked r s t) (λ j h. narrow (suc j) (omega arith)) (step-kept r s t (narrow zero (omega arith)) p)
+    run-kept (activeStep r i) rest (step-tracked r s t) (λ j h. narrow (suc j) (omega arith)) (step-kept r s t (narrow zero (omega arith)) p)
 
 -- a promotion makes one component, and nothing else does
 pub step-components : {limit : ℕ} {w v : Walk} {i : Instruction} → Stepped limit w i v → length (v .components) ≡ length (w .components) + isPromotion i
@@ -363,8 +363,8 @@ module _ {limit : ℕ} {is : List Instruction} {u : Walk} (k : ℕ) (run : Run l
   component-count = let e = run-components run in let f = start-components k in omega arith
 
   -- the state and the roll go together
-  run-tracks : Tracked u (rollAfter (rollStart k) is)
-  run-tracks = run-tracked (rollStart k) run (start-tracked k)
+  run-tracks : Tracked u (activeAfter (activeStart k) is)
+  run-tracks = run-tracked (activeStart k) run (start-tracked k)
 
   -- a longest size for each
   pub longest-count : length (u .longest) ≡ length (u .components)
@@ -380,7 +380,7 @@ module _ {limit : ℕ} {is : List Instruction} {u : Walk} (k : ℕ) (run : Run l
 
   module _ (narrow : Narrow is) (few : length (u .components) ≤ 512) where
     run-keeps : Kept u
-    run-keeps = run-kept (rollStart k) run (start-tracked k) narrow (start-kept k)
+    run-keeps = run-kept (activeStart k) run (start-tracked k) narrow (start-kept k)
 
     -- what always suffices for the merge list
     pub merges-most : length (u .written .merges) ≤ length is + 511
@@ -400,7 +400,7 @@ module _ {limit : ℕ} {is : List Instruction} {u : Walk} (k : ℕ) (run : Run l
         let e = groups-length (u .components) in
         let o = occupied-most (u .components) in
         let t = run-tracks in
-        let m = rearranged-length (concat (u .components)) (rollAfter (rollStart k) is .order) (t .holds .held) in
+        let m = rearranged-length (concat (u .components)) (activeAfter (activeStart k) is .order) (t .holds .held) in
         let s = ap length (t .order-same) in omega (arith, run-keeps .active)
 
     -- all outputs of the plan made from the state
@@ -553,3 +553,11 @@ module _ (limit : ℕ) (h : Head) (ws : List ℕ) (l : Lengths) (p : Plan) (e : 
   -- so they fit the lent buffers
   pub plan-fits-in : FitsIn p l
   plan-fits-in = either (unread h) refl .1
+
+-- a buffer keeps its length, with words that fit it and with none
+pub padded-length : (n : ℕ) (ws : List ℕ) → length ws ≤ n → length (padded n ws) ≡ n
+padded-length n ws h = let e = length-append ws (replicate {A = ℕ} (n - length ws) 0) in let f = length-replicate {A = ℕ} (n - length ws) 0 in omega arith
+
+pub held-length : (n : ℕ) (output : Plan → List ℕ) (r : Result) → ((p : Plan) → r ≡ planned p → length (output p) ≤ n) → length (heldAfter n output r) ≡ n
+held-length n output (planned p) h = padded-length n (output p) (h p refl)
+held-length n output (refusedAt number index) h = padded-length n [] (omega arith)

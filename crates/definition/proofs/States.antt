@@ -9,35 +9,35 @@ use Rattle.records.specs.declared.Instruction.{Instruction}
 use Rattle.kernels.specs.declared.active.ActivePauliAction.{ActivePauliAction}
 use Rattle.definition.specs.Lists.{placeOf}
 use Rattle.definition.specs.Walk.{Walk, joinOf, localAction, start, noStep, ignoredStep, promotionStep, rotationStep, measurementStep, rowHead, rotationRow, measurementRow}
-use Rattle.definition.specs.Connectivity.{Member, Roll, rollStart}
+use Rattle.definition.specs.Connectivity.{Member, ActiveOrder, activeStart}
 use Rattle.definition.specs.Laws.{Whole, RowsBelow}
 use Rattle.definition.proofs.Steps.{Stepped, ignored, rotated, promoted, measured, recorded, detected, expected, branched, Run, done, more}
 use Rattle.definition.proofs.Growth.{each-more}
 use Rattle.definition.proofs.Joins.{gathered-from}
 use Rattle.definition.proofs.Invariant.{listed-active, active-listed, source-holds}
-use Rattle.definition.proofs.Tracking.{Tracked, rollOf, tracked-here, target-source, rotation-action, measurement-keeps, start-tracked, run-tracked}
+use Rattle.definition.proofs.Tracking.{Tracked, activeOf, tracked-here, target-source, rotation-action, measurement-keeps, start-tracked, run-tracked}
 
 -- a list that has a member has a length
 member-length : (a : ℕ) (xs : List ℕ) → Member a xs → 0 < length xs
 member-length a [] m = absurd (omega arith)
 member-length a (x ∷ xs) m = omega arith
 
-pub tracked-whole : (w : Walk) (r : Roll) → Tracked w r → Whole w
+pub tracked-whole : (w : Walk) (r : ActiveOrder) → Tracked w r → Whole w
 unfolding joinOf
 tracked-whole w r t =
     let h = tracked-here w r t in record {
       coordinate-valid = λ a m. let b = h .below a m in let n = h .next-same in omega arith;
-      coordinate-held = λ a m. active-listed (w .components) (rollOf w r) h a m;
-      member-active = λ a c m. listed-active (w .components) (rollOf w r) h a c m;
-      joined-active = λ x z a m. let g = gathered-from (w .components) (joinOf x z w .sources) a m in listed-active (w .components) (rollOf w r) h a (g .0) (g .2);
+      coordinate-held = λ a m. active-listed (w .components) (activeOf w r) h a m;
+      member-active = λ a c m. listed-active (w .components) (activeOf w r) h a c m;
+      joined-active = λ x z a m. let g = gathered-from (w .components) (joinOf x z w .sources) a m in listed-active (w .components) (activeOf w r) h a (g .0) (g .2);
       source-live = λ x z c m.
-          let s = source-holds (w .components) (rollOf w r) h x z c m in (s .0, member-length (s .1 .0) (getD (w .components) c []) (s .1 .2));
+          let s = source-holds (w .components) (activeOf w r) h x z c m in (s .0, member-length (s .1 .0) (getD (w .components) c []) (s .1 .2));
       target-given = λ x z active. target-source w r t x z active;
     }
 
 -- in every state that the walk reaches, whatever the next record is
 pub reached-whole : {limit : ℕ} (k : ℕ) {is : List Instruction} {u : Walk} → Run limit (start k) is u → Whole u
-reached-whole k {is = is} run = let t = run-tracked (rollStart k) run (start-tracked k) in tracked-whole _ _ t
+reached-whole k {is = is} run = let t = run-tracked (activeStart k) run (start-tracked k) in tracked-whole _ _ t
 
 -- ---- rows below the limit
 

@@ -19,10 +19,10 @@ use Rattle.records.specs.declared.Instruction.{Instruction}
 use Rattle.definition.specs.Lists.{placeOf, removeAt}
 use Rattle.definition.specs.Components.{support, touched, sourcesOf, joined, liveDimension}
 use Rattle.definition.specs.Walk.{Walk, joinOf, localAction, start, noStep, ignoredStep, promotionStep, rotationStep, measurementStep}
-use Rattle.definition.specs.Connectivity.{Member, greatest, Roll, rollStart, rollStep, rollAfter, withLinks, advanced, supportOf, merged, classOf, liveAt, moments, momentsOf}
+use Rattle.definition.specs.Connectivity.{Member, greatest, ActiveOrder, activeStart, activeStep, activeAfter, withLinks, advanced, supportOf, merged, classOf, liveAt, moments, momentsOf}
 use Rattle.definition.proofs.Counting.{place-below, place-holds, member-head}
 use Rattle.definition.proofs.Steps.{given-same, Stepped, ignored, rotated, promoted, measured, recorded, detected, expected, branched, Run, done, more}
-use Rattle.definition.proofs.Joins.{length-joined, gathered-poured, join-target}
+use Rattle.definition.proofs.Joins.{length-joined, gathered-joined, join-target}
 use Rattle.definition.proofs.LocalBits.{support-member}
 use Rattle.definition.proofs.Classes.{class-append}
 use Rattle.definition.proofs.Live.{live-is}
@@ -68,20 +68,20 @@ measurement-keeps limit a p pivot k e =
     (keeps-refused a pivot 20))
     k (g .1)
 
-pub record Tracked (w : Walk) (r : Roll) : Type 0 where
+pub record Tracked (w : Walk) (r : ActiveOrder) : Type 0 where
   pub order-same : w .order ≡ r .order
   pub holds : Holds (w .components) r
   pub longest-same : length (w .longest) ≡ length (w .components)
   pub live-peak : liveDimension (w .components) ≤ w .peak
 
 -- the live dimension from the components is that from the instructions
-pub live-same : (cs : List (List ℕ)) (r : Roll) → Holds cs r → liveDimension cs ≡ liveAt r
+pub live-same : (cs : List (List ℕ)) (r : ActiveOrder) → Holds cs r → liveDimension cs ≡ liveAt r
 live-same cs r h = live-is r cs (h .held) (h .once) (class-in cs r h) (h .classes)
 
 -- ---- a join, in the walk
 
 -- the joined components hold what the roll with the new links says
-pub tracked-join : (w : Walk) (r : Roll) (width x z : ℕ) → Tracked w r → width ≡ length (w .order)
+pub tracked-join : (w : Walk) (r : ActiveOrder) (width x z : ℕ) → Tracked w r → width ≡ length (w .order)
     → Holds (joinOf x z w .components) (record { order = r .order; next = r .next; links = r .links ++ (supportOf width x z (r .order) ∷ []) })
 unfolding joinOf
 tracked-join w r width x z t wide =
@@ -90,13 +90,13 @@ tracked-join w r width x z t wide =
     (holds-join (w .components) r width x z (wide ∙ ap length (t .order-same)) (t .holds))
 
 -- the roll with the walk's own order
-abbrev pub rollOf : Walk → Roll → Roll
-rollOf w r = record { order = w .order; next = r .next; links = r .links }
+abbrev pub activeOf : Walk → ActiveOrder → ActiveOrder
+activeOf w r = record { order = w .order; next = r .next; links = r .links }
 
-pub tracked-here : (w : Walk) (r : Roll) → Tracked w r → Holds (w .components) (rollOf w r)
+pub tracked-here : (w : Walk) (r : ActiveOrder) → Tracked w r → Holds (w .components) (activeOf w r)
 tracked-here w r t = subst (λ (o : List ℕ). Holds (w .components) (record { order = o; next = r .next; links = r .links })) (sym (t .order-same)) (t .holds)
 
-module _ (w : Walk) (r : Roll) (t : Tracked w r) (x z : ℕ) (some-active : 0 < length (w .order)) where
+module _ (w : Walk) (r : ActiveOrder) (t : Tracked w r) (x z : ℕ) (some-active : 0 < length (w .order)) where
   -- a join has a source
   source-some : (c : ℕ) × Member c (joinOf x z w .sources)
   unfolding joinOf
@@ -104,8 +104,8 @@ module _ (w : Walk) (r : Roll) (t : Tracked w r) (x z : ℕ) (some-active : 0 < 
       let h = tracked-here w r t in
       let a = anchored-some (w .order) (support x z (w .order)) some-active in
       let active = anchored-member (w .order) (support x z (w .order)) (support-member x z (w .order)) (a .0) (a .1) in
-      let l = active-listed (w .components) (rollOf w r) h (a .0) active in
-      (l .0, holds-source (w .components) (rollOf w r) h x z (l .0) (a .0) (l .1) (a .1) (l .2))
+      let l = active-listed (w .components) (activeOf w r) h (a .0) active in
+      (l .0, holds-source (w .components) (activeOf w r) h x z (l .0) (a .0) (l .1) (a .1) (l .2))
 
   first-in : (xs : List ℕ) (c : ℕ) → Member c xs → Member (getD xs 0 0) xs
   first-in [] c m = m
@@ -117,15 +117,15 @@ module _ (w : Walk) (r : Roll) (t : Tracked w r) (x z : ℕ) (some-active : 0 < 
 
   pub target-below : joinOf x z w .component < length (w .components)
   unfolding joinOf
-  target-below = source-below (w .components) (rollOf w r) (tracked-here w r t) x z (joinOf x z w .component) target-source
+  target-below = source-below (w .components) (activeOf w r) (tracked-here w r t) x z (joinOf x z w .component) target-source
 
   -- the target's members are the join's
   pub target-members : getD (joinOf x z w .components) (joinOf x z w .component) [] ≡ joinOf x z w .members
   unfolding joinOf
   target-members =
-      after-join (w .components) (rollOf w r) (tracked-here w r t) x z (joinOf x z w .component)
+      after-join (w .components) (activeOf w r) (tracked-here w r t) x z (joinOf x z w .component)
       ∙ join-target (λ c. getD (w .components) c []) (joinOf x z w .sources) (source-some .0) (source-some .1)
-      ∙ sym (gathered-poured (w .components) (joinOf x z w .sources))
+      ∙ sym (gathered-joined (w .components) (joinOf x z w .sources))
 
   pub join-length : length (joinOf x z w .components) ≡ length (w .components)
   unfolding joinOf
@@ -151,7 +151,7 @@ unfolding supportOf
 no-links x z order = refl
 
 -- a link of nobody changes nothing
-pub holds-unlinked : (cs : List (List ℕ)) (r : Roll) (x z : ℕ) → Holds cs r → Holds cs (record { order = r .order; next = r .next; links = r .links ++ (supportOf 0 x z (r .order) ∷ []) })
+pub holds-unlinked : (cs : List (List ℕ)) (r : ActiveOrder) (x z : ℕ) → Holds cs r → Holds cs (record { order = r .order; next = r .next; links = r .links ++ (supportOf 0 x z (r .order) ∷ []) })
 holds-unlinked cs r x z h = record {
   next-same = h .next-same;
   held = h .held;
@@ -173,7 +173,7 @@ holds-unlinked cs r x z h = record {
         let z : Member a [] = subst (λ (l : List ℕ). Member a l) (List·Memᴰ·eq-of-singleton m ∙ no-links x z (r .order)) n in absurd (omega arith)
 
 -- a measurement removes the coordinate at the pivot from the order and from the target
-pub tracked-removal : (w : Walk) (r : Roll) (width x z pivot local : ℕ) → Tracked w r → width ≡ length (w .order) → 0 < length (w .order) → pivot < length (w .order)
+pub tracked-removal : (w : Walk) (r : ActiveOrder) (width x z pivot local : ℕ) → Tracked w r → width ≡ length (w .order) → 0 < length (w .order) → pivot < length (w .order)
     → Member (getD (w .order) pivot 0) (joinOf x z w .members) → local ≡ placeOf (getD (w .order) pivot 0) (joinOf x z w .members)
     → Holds (set (joinOf x z w .components) (joinOf x z w .component) (removeAt local (joinOf x z w .members)))
     (record { order = removeAt pivot (r .order); next = r .next; links = r .links ++ (supportOf width x z (r .order) ∷ []) })
@@ -191,7 +191,7 @@ tracked-removal w r width x z pivot local t wide active below inside at =
     (ap (λ (m : List ℕ). getD m local 0) members ∙ ap (λ (q : ℕ). getD (j .members) q 0) at ∙ place-holds coordinate (j .members) inside
     ∙ ap (λ (o : List ℕ). getD o pivot 0) (t .order-same)))
 
-pub step-tracked : {limit : ℕ} {w v : Walk} {i : Instruction} (r : Roll) → Stepped limit w i v → Tracked w r → Tracked v (rollStep r i)
+pub step-tracked : {limit : ℕ} {w v : Walk} {i : Instruction} (r : ActiveOrder) → Stepped limit w i v → Tracked w r → Tracked v (activeStep r i)
 unfolding withLinks advanced noStep ignoredStep promotionStep rotationStep measurementStep
 step-tracked {w = w} r (ignored x z phase angle sine cosine empty) t = record {
   order-same = t .order-same;
@@ -228,7 +228,7 @@ step-tracked r detected t = record { order-same = t .order-same; holds = t .hold
 step-tracked r expected t = record { order-same = t .order-same; holds = t .holds; longest-same = t .longest-same; live-peak = t .live-peak }
 step-tracked r branched t = record { order-same = t .order-same; holds = t .holds; longest-same = t .longest-same; live-peak = t .live-peak }
 
-pub start-tracked : (k : ℕ) → Tracked (start k) (rollStart k)
+pub start-tracked : (k : ℕ) → Tracked (start k) (activeStart k)
 unfolding start
 start-tracked k = record {
   order-same = refl;
@@ -237,13 +237,13 @@ start-tracked k = record {
   live-peak = omega arith;
 }
 
-pub run-tracked : {limit : ℕ} {w u : Walk} {is : List Instruction} (r : Roll) → Run limit w is u → Tracked w r → Tracked u (rollAfter r is)
+pub run-tracked : {limit : ℕ} {w u : Walk} {is : List Instruction} (r : ActiveOrder) → Run limit w is u → Tracked w r → Tracked u (activeAfter r is)
 run-tracked r (done w) t = t
-run-tracked r (more {i = i} s rest) t = run-tracked (rollStep r i) rest (step-tracked r s t)
+run-tracked r (more {i = i} s rest) t = run-tracked (activeStep r i) rest (step-tracked r s t)
 
 -- ---- the peak is the greatest live dimension
 
-pub step-peak : {limit : ℕ} {w v : Walk} {i : Instruction} (r : Roll) → Stepped limit w i v → Tracked w r
+pub step-peak : {limit : ℕ} {w v : Walk} {i : Instruction} (r : ActiveOrder) → Stepped limit w i v → Tracked w r
     → v .peak ≡ max (w .peak) (greatest (map liveAt (momentsOf r i)))
 unfolding momentsOf withLinks advanced noStep ignoredStep promotionStep rotationStep measurementStep
 step-peak {w = w} r (ignored x z phase angle sine cosine empty) t =
@@ -274,11 +274,11 @@ map-append : {A B : Type 0} (f : A → B) (xs ys : List A) → map f (xs ++ ys) 
 map-append f [] ys = refl
 map-append f (x ∷ xs) ys = ap (λ (l : List _). f x ∷ l) (map-append f xs ys)
 
-pub run-peak : {limit : ℕ} {w u : Walk} {is : List Instruction} (r : Roll) → Run limit w is u → Tracked w r
+pub run-peak : {limit : ℕ} {w u : Walk} {is : List Instruction} (r : ActiveOrder) → Run limit w is u → Tracked w r
     → u .peak ≡ max (w .peak) (greatest (map liveAt (moments r is)))
 run-peak r (done w) t = omega arith
 run-peak r (more {i = i} {is = is} s rest) t =
     let e = step-peak r s t in
-    let f = run-peak (rollStep r i) rest (step-tracked r s t) in
-    let g = ap greatest (map-append liveAt (momentsOf r i) (moments (rollStep r i) is)) ∙ greatest-append (map liveAt (momentsOf r i)) (map liveAt (moments (rollStep r i) is)) in
+    let f = run-peak (activeStep r i) rest (step-tracked r s t) in
+    let g = ap greatest (map-append liveAt (momentsOf r i) (moments (activeStep r i) is)) ∙ greatest-append (map liveAt (momentsOf r i)) (map liveAt (moments (activeStep r i) is)) in
     omega arith

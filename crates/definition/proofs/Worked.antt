@@ -14,7 +14,7 @@ use Rattle.records.specs.declared.Instruction.{Instruction}
 use Rattle.definition.specs.Lists.{numbersFrom}
 use Rattle.definition.specs.Plan.{Plan, planned, planOf}
 use Rattle.definition.specs.Circuits.{enough}
-use Rattle.definition.specs.Connectivity.{Roll, rollStart, rollAfter, withLinks, advanced, setsOf, liveAt, momentsOf, moments, binsJoined, binsAfter, longestOf, measurementAt, Connected}
+use Rattle.definition.specs.Connectivity.{ActiveOrder, activeStart, activeAfter, withLinks, advanced, setsOf, liveAt, momentsOf, moments, replayJoined, replayAfter, longestOf, measurementAt, Connected}
 use Rattle.definition.proofs.Connected.{connected}
 
 -- 1.0 as bits
@@ -83,25 +83,25 @@ worked m h = connected 62 head words (enough 10) plan premise (omega arith) refl
 abbrev instructions : List Instruction
 instructions = instructionsOf words
 
-abbrev rollAt : ℕ → Roll
-rollAt m = rollAfter (rollStart 4) (take m instructions)
+abbrev activeAt : ℕ → ActiveOrder
+activeAt m = activeAfter (activeStart 4) (take m instructions)
 
 -- the active order, from the instructions
 orders :
-    map (λ m. rollAt m .order) (numbersFrom 0 11)
+    map (λ m. activeAt m .order) (numbersFrom 0 11)
     ≡ (0 ∷ 1 ∷ 2 ∷ 3 ∷ []) ∷ (0 ∷ 1 ∷ 2 ∷ 3 ∷ []) ∷ (0 ∷ 1 ∷ 2 ∷ 3 ∷ []) ∷ (0 ∷ 1 ∷ 2 ∷ 3 ∷ []) ∷ (0 ∷ 2 ∷ 3 ∷ []) ∷ (0 ∷ 2 ∷ 3 ∷ 4 ∷ [])
     ∷ (0 ∷ 2 ∷ 3 ∷ 4 ∷ []) ∷ (0 ∷ 2 ∷ 3 ∷ 4 ∷ []) ∷ (0 ∷ 2 ∷ 3 ∷ 4 ∷ []) ∷ (0 ∷ 2 ∷ 3 ∷ 4 ∷ []) ∷ (0 ∷ 2 ∷ 3 ∷ 4 ∷ []) ∷ []
 unfolding instructionsOf withLinks advanced
 orders = refl
 
 -- the supports, oldest first: coordinate 1, measured since, links 0 and 2
-links : rollAt 10 .links ≡ (0 ∷ 1 ∷ []) ∷ (1 ∷ 2 ∷ []) ∷ (1 ∷ []) ∷ (3 ∷ 4 ∷ []) ∷ [] ∷ []
+links : activeAt 10 .links ≡ (0 ∷ 1 ∷ []) ∷ (1 ∷ 2 ∷ []) ∷ (1 ∷ []) ∷ (3 ∷ 4 ∷ []) ∷ [] ∷ []
 unfolding instructionsOf withLinks advanced
 links = refl
 
 -- the bins 0 to 4, from the plan's words
-bins :
-    map (λ m. map (binsAfter plan m) (numbersFrom 0 5)) (0 ∷ 1 ∷ 2 ∷ 4 ∷ 5 ∷ 8 ∷ 10 ∷ [])
+replay :
+    map (λ m. map (replayAfter plan m) (numbersFrom 0 5)) (0 ∷ 1 ∷ 2 ∷ 4 ∷ 5 ∷ 8 ∷ 10 ∷ [])
     ≡ ((0 ∷ []) ∷ (1 ∷ []) ∷ (2 ∷ []) ∷ (3 ∷ []) ∷ [] ∷ [])
     ∷ ((0 ∷ 1 ∷ []) ∷ [] ∷ (2 ∷ []) ∷ (3 ∷ []) ∷ [] ∷ [])
     ∷ ((0 ∷ 1 ∷ 2 ∷ []) ∷ [] ∷ [] ∷ (3 ∷ []) ∷ [] ∷ [])
@@ -110,28 +110,28 @@ bins :
     ∷ ((0 ∷ 2 ∷ []) ∷ [] ∷ [] ∷ (3 ∷ 4 ∷ []) ∷ [] ∷ [])
     ∷ ((0 ∷ 2 ∷ []) ∷ [] ∷ [] ∷ (3 ∷ 4 ∷ []) ∷ [] ∷ [])
     ∷ []
-unfolding binsAfter
-bins = refl
+unfolding replayAfter
+replay = refl
 
 -- the sets that the chains gather, from the instructions: the same at the end
-sets : setsOf (rollAt 10) ≡ (0 ∷ 2 ∷ []) ∷ [] ∷ [] ∷ (3 ∷ 4 ∷ []) ∷ [] ∷ []
+sets : setsOf (activeAt 10) ≡ (0 ∷ 2 ∷ []) ∷ [] ∷ [] ∷ (3 ∷ 4 ∷ []) ∷ [] ∷ []
 unfolding instructionsOf withLinks advanced setsOf
 sets = refl
 
 -- just after the measurement's join: the bin still holds coordinate 1, at the local pivot 1; local width 3, x = 2, z = 0
-measured : binsJoined plan 3 (binsAfter plan 3) (getD (measurementAt plan 3) 0 0) ≡ 0 ∷ 1 ∷ 2 ∷ []
-unfolding binsJoined binsAfter
+measured : replayJoined plan 3 (replayAfter plan 3) (getD (measurementAt plan 3) 0 0) ≡ 0 ∷ 1 ∷ 2 ∷ []
+unfolding replayJoined replayAfter
 measured = refl
 
 measured-row : take 6 (measurementAt plan 3) ++ (getD (measurementAt plan 3) 11 0 ∷ []) ≡ 0 ∷ 4 ∷ 1 ∷ 3 ∷ 2 ∷ 0 ∷ 1 ∷ []
 measured-row = refl
 
 -- live dimensions at the start, after three joins and the removal, the promotion, and two joins
-lives : map liveAt (rollStart 4 ∷ moments (rollStart 4) instructions) ≡ 8 ∷ 8 ∷ 10 ∷ 10 ∷ 6 ∷ 8 ∷ 8 ∷ 8 ∷ []
+lives : map liveAt (activeStart 4 ∷ moments (activeStart 4) instructions) ≡ 8 ∷ 8 ∷ 10 ∷ 10 ∷ 6 ∷ 8 ∷ 8 ∷ 8 ∷ []
 unfolding instructionsOf momentsOf liveAt
 lives = refl
 
 -- the greatest lengths of the bins; 2^3 + 2 + 2 + 2^2 + 2 is 18
 longests : map (longestOf plan 10) (numbersFrom 0 5) ≡ 3 ∷ 1 ∷ 1 ∷ 2 ∷ 1 ∷ []
-unfolding binsAfter
+unfolding replayAfter
 longests = refl

@@ -50,9 +50,14 @@ pub data Result : Type 0 where
   planned : Plan → Result
   refusedAt : (number index : ℕ) → Result
 
--- what a lent buffer of n words holds: "unused words are zero", and after a refusal all are
+-- "unused words are zero": what a lent buffer of n words holds with these used
 abbrev pub padded : ℕ → List ℕ → List ℕ
 padded n ws = ws ++ replicate (n - length ws) 0
+
+-- what the lent buffer of one output holds afterwards: "no plan, all seven outputs zero" after a refusal
+abbrev pub heldAfter : ℕ → (Plan → List ℕ) → Result → List ℕ
+heldAfter n output (planned p) = padded n (output p)
+heldAfter n output (refusedAt number index) = padded n []
 
 -- ---- section 6
 
