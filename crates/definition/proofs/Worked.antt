@@ -1,5 +1,6 @@
 -- A worked program of all six kinds of record that meets the premises of `connected`: a chain through a measured coordinate, mask bits above the width, an
 -- identity rotation and an expectation with unread words. Each claim's figures are computed, from the instructions and from the plan's words apart, and compared.
+-- The plan is the Rust's answer, the fourth in tests/reference/further.expected.
 use mathlib.Core.Path.{_≡_, refl}
 use mathlib.Core.List.{List, [], _∷_, _++_, map}
 use mathlib.Core.Bool.{false}
