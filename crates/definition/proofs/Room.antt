@@ -10,6 +10,8 @@ use Prim.Native.Nat.{ℕ, zero, suc, _+_, _-_, _*_, _/_, _^_, _≤_, _<_}
 use native.Mathlib.Nat.{mul-le-mul-left, mul-le-mul-right, eq-zero-or-pos}
 use native.Mathlib.Omega.{arith}
 use lib.Dec.{eqb, ltb}
+use lib.Ieee.{fin}
+use lib.IntN.{pos}
 use lib.ListN.{length, getD, set, length-set, length-append, length-map, replicate, length-replicate}
 use lib.Seq.{getD-set-other, take-length}
 use lib.Pow.{pow-mono, pow-add}
@@ -490,6 +492,29 @@ unread-planned limit h ws l p u = go (dimension limit (h .«max_k»))
     go (some densePeak) e =
         let f : planned (unreadPlan (h .«initial_k») densePeak) ≡ planned p = sym (cond-yes (unread h) _ _ u) ∙ e in
         let same : p ≡ unreadPlan (h .«initial_k») densePeak = cc in (densePeak, same)
+
+-- a plan that read nothing, field by field: unselected, and all zero but the two given
+pub unread-is : (initial densePeak : ℕ)
+    → unreadPlan initial densePeak
+    ≡ record {
+      selected = false;
+      initialComponents = initial;
+      componentCount = 0;
+      denseWork = fin false 0 (pos 0);
+      componentWork = fin false 0 (pos 0);
+      densePeak = densePeak;
+      peak = 0;
+      allocated = 0;
+      steps = [];
+      merges = [];
+      sizes = [];
+      rotations = [];
+      promotions = [];
+      measurements = [];
+      groups = [];
+    }
+unfolding unreadPlan
+unread-is initial densePeak = refl
 
 -- the outputs of a plan that read nothing are empty
 unread-fits : (initial densePeak n : ℕ) → Fits (unreadPlan initial densePeak) n

@@ -86,26 +86,6 @@ chosen quantum dense component allocated densePeak =
 abbrev pub unread : Head → Bool
 unread h = ltb (h .«max_k») 8 || not (eqb (h .nexpvals) 0)
 
--- "unselected, initial_components = initial_k, dense peak 2^max_k, all else zero"
-unfoldable pub unreadPlan : ℕ → ℕ → Plan
-unreadPlan initial densePeak = record {
-  selected = false;
-  initialComponents = initial;
-  componentCount = 0;
-  denseWork = fin false 0 (pos 0);
-  componentWork = fin false 0 (pos 0);
-  densePeak = densePeak;
-  peak = 0;
-  allocated = 0;
-  steps = [];
-  merges = [];
-  sizes = [];
-  rotations = [];
-  promotions = [];
-  measurements = [];
-  groups = [];
-}
-
 -- ---- the plan of a finished walk
 
 -- "Groups (added): final live components, each a member count and its members in order"; by ascending number
@@ -135,6 +115,11 @@ planFrom initial densePeak w =
       measurements = concat (o .measurements);
       groups = groupsOf (w .components);
     }
+
+-- "unselected, initial_components = initial_k, dense peak 2^max_k, all else zero": the plan of a walk from no coordinates over no records
+unfoldable pub unreadPlan : ℕ → ℕ → Plan
+unfolding planFrom start
+unreadPlan initial densePeak = planFrom initial densePeak (start 0)
 
 -- ---- "Where planning stops", in order
 

@@ -148,9 +148,9 @@ keptStep kind dense quantum w = record {
   order = w .order;
   components = w .components;
   longest = w .longest;
-  denseWork = dense;
   componentWork = w .componentWork;
   peak = w .peak;
+  denseWork = dense;
   quantum = quantum;
   written = withStep kind 0 (w .written);
 }
@@ -184,7 +184,8 @@ promotionStep w =
 unfoldable pub rotationStep : Walk → Join → PrecomputedActivePauliRotationKernel → Walk
 unfolding rotationRow
 rotationStep w j k =
-    let o = w .written in record {
+    let o = w .written in
+    let row = rotationRow (j .component) (length (o .merges)) (length (j .sources)) k in record {
       order = w .order;
       components = j .components;
       longest = j .longest;
@@ -192,13 +193,8 @@ rotationStep w j k =
       componentWork = add binary64 (j .work) (add binary64 (exp2 (length (j .members))) (fin false 1 (pos 5)));
       peak = j .peak;
       quantum = suc (w .quantum);
-      written = withStep 2 (length (o .rotations)) (record {
-        steps = o .steps;
-        merges = o .merges ++ j .sources;
-        rotations = o .rotations ++ (rotationRow (j .component) (length (o .merges)) (length (j .sources)) k ∷ []);
-        promotions = o .promotions;
-        measurements = o .measurements;
-      });
+      written = withStep 2 (length (o .rotations))
+          (record { steps = o .steps; merges = o .merges ++ j .sources; rotations = o .rotations ++ (row ∷ []); promotions = o .promotions; measurements = o .measurements });
     }
 
 -- "Measurement, flag 0: dense + 2·2^k; join; component + (2·2^size + 32), size before removal; then the coordinate at the pivot's active position
@@ -208,7 +204,8 @@ unfolding measurementRow liveDimension
 measurementStep w j pivot k =
     let left = removeAt (k .pivot) (j .members) in
     let components = set (j .components) (j .component) left in
-    let o = w .written in record {
+    let o = w .written in
+    let row = measurementRow (j .component) (length (o .merges)) (length (j .sources)) k (eqb (length left) 0) in record {
       order = removeAt pivot (w .order);
       components = components;
       longest = j .longest;
@@ -216,13 +213,8 @@ measurementStep w j pivot k =
       componentWork = add binary64 (j .work) (add binary64 (mul binary64 twoF (exp2 (length (j .members)))) (fin false 1 (pos 5)));
       peak = max (j .peak) (liveDimension components);
       quantum = suc (w .quantum);
-      written = withStep 4 (length (o .measurements)) (record {
-        steps = o .steps;
-        merges = o .merges ++ j .sources;
-        rotations = o .rotations;
-        promotions = o .promotions;
-        measurements = o .measurements ++ (measurementRow (j .component) (length (o .merges)) (length (j .sources)) k (eqb (length left) 0) ∷ []);
-      });
+      written = withStep 4 (length (o .measurements))
+          (record { steps = o .steps; merges = o .merges ++ j .sources; rotations = o .rotations; promotions = o .promotions; measurements = o .measurements ++ (row ∷ []) });
     }
 
 -- 11, or the ignored phase, or 14, or the rotation
