@@ -10,13 +10,11 @@ use native.Mathlib.Nat.{le-trans, le-refl}
 use lib.Pow.{pow-mono}
 use Rattle.kernels.specs.Bits.{bitAt}
 use Rattle.kernels.specs.declared.active.ActivePauliAction.{ActivePauliAction}
-use Rattle.kernels.specs.declared.active.PrecomputedActivePauliRotationKernel.{PrecomputedActivePauliRotationKernel}
-use Rattle.kernels.specs.declared.active.PrecomputedActivePauliMeasurementKernel.{PrecomputedActivePauliMeasurementKernel}
 use Rattle.records.specs.declared.Instruction.{Instruction}
 use Rattle.records.specs.declared.Instruction.the-variants.{Rotation, Promotion, RecordMeasurement, RecordDetector, Measurement, Expectation, DormantBranch}
 use Rattle.definition.specs.Lists.{placeOf, numbersFrom, total, concat}
 use Rattle.definition.specs.Components.{support, localMask, liveDimension, amplitudes}
-use Rattle.definition.specs.Walk.{Walk, Join, joinOf, localAction, start, noStep, ignoredStep, promotionStep, rotationStep, measurementStep, rowHead, rotationRow, measurementRow}
+use Rattle.definition.specs.Walk.{Walk, joinOf, localAction, start, noStep, ignoredStep, promotionStep, rotationStep, measurementStep, rowHead, rotationRow, measurementRow}
 use Rattle.definition.specs.Plan.{Plan, planFrom}
 use Rattle.definition.specs.Connectivity.{Member, ActiveOrder, activeStart, activeStep, activeAfter, withLinks, advanced, supportOf, rotationAt, measurementAt, replayJoined, replayAfter, longestOf, LocalBits, JoinHolds, JoinClaim, isPromotion, isMeasurement}
 use Rattle.definition.proofs.Counting.{place-below, place-holds, member-at, length-removeAt, length-numbers}
@@ -26,7 +24,7 @@ use Rattle.definition.proofs.LocalBits.{local-bit, local-clear, support
 use Rattle.definition.proofs.Invariant.{listed-active, active-listed, sources, holds-source, anchored-cases}
 use Rattle.definition.proofs.Growth.{Grown, AllOf, grown-trans, run-grown, step-steps}
 use Rattle.definition.proofs.Tracking.{Tracked, activeOf, tracked-here, target-members, join-length, rotation-action, measurement-keeps, start-tracked, step-tracked}
-use Rattle.definition.proofs.Replay.{joinedComponents, ReplayIs, rotation-kind, rotation-row, measurement-kind, measurement-row, step-joined, step-replay}
+use Rattle.definition.proofs.Replay.{joinedComponents, ReplayIs, rotation-kind, rotation-row, measurement-kind, measurement-row, measurement-named, step-joined, step-replay}
 use Rattle.definition.proofs.Longest.{sizeAt, Long, start-long, step-long, long-after}
 
 -- ---- the bins' members are the components'
@@ -140,6 +138,17 @@ module _ (w : Walk) (r : ActiveOrder) (t : Tracked w r) (width x z : ℕ) (wide 
 
 -- ---- the rows' claims, and the longest sizes, along the replay
 
+-- component, local width and masks in a row of either kind
+head-entries : (row tail : List ℕ) (component offset count : ℕ) (a b : ActivePauliAction) → row ≡ rowHead component offset count a ++ tail → a ≡ b
+    → (getD row 0 0 ≡ component) × (getD row 3 0 ≡ b .nqubits) × (getD row 4 0 ≡ b .xmask) × (getD row 5 0 ≡ b .zmask)
+unfolding rowHead
+head-entries row tail component offset count a b e same = (
+  ap (λ (l : List ℕ). getD l 0 0) e,
+  ap (λ (l : List ℕ). getD l 3 0) e ∙ ap (λ (c : ActivePauliAction). c .nqubits) same,
+  ap (λ (l : List ℕ). getD l 4 0) e ∙ ap (λ (c : ActivePauliAction). c .xmask) same,
+  ap (λ (l : List ℕ). getD l 5 0) e ∙ ap (λ (c : ActivePauliAction). c .zmask) same,
+)
+
 module _ (initial densePeak : ℕ) (u : Walk) (rotations-wide : AllOf 21 (u .written .rotations)) (measurements-wide : AllOf 19 (u .written .measurements)) where
   abbrev plan : Plan
   plan = planFrom initial densePeak u
@@ -147,39 +156,15 @@ module _ (initial densePeak : ℕ) (u : Walk) (rotations-wide : AllOf 21 (u .wri
   abbrev Follows : ℕ → Walk → Type 0
   Follows m w = ReplayIs initial densePeak u rotations-wide measurements-wide m w
 
-  rotation-entries : (m : ℕ) (w : Walk) (j : Join) (k : PrecomputedActivePauliRotationKernel) (a : ActivePauliAction) → length (w .written .steps) ≡ 2 * m
-      → Grown (rotationStep w j k .written) (u .written) → k .action ≡ a
-      → (getD (rotationAt plan m) 0 0 ≡ j .component) × (getD (rotationAt plan m) 3 0 ≡ a .nqubits) × (getD (rotationAt plan m) 4 0 ≡ a .xmask) × (getD (rotationAt plan m) 5 0 ≡ a .zmask)
-  unfolding rotationRow rowHead
-  rotation-entries m w j k a l g made =
-      let e = rotation-row initial densePeak u rotations-wide measurements-wide m w j k l g in (
-        ap (λ (row : List ℕ). getD row 0 0) e,
-        ap (λ (row : List ℕ). getD row 3 0) e ∙ ap (λ (b : ActivePauliAction). b .nqubits) made,
-        ap (λ (row : List ℕ). getD row 4 0) e ∙ ap (λ (b : ActivePauliAction). b .xmask) made,
-        ap (λ (row : List ℕ). getD row 5 0) e ∙ ap (λ (b : ActivePauliAction). b .zmask) made,
-      )
-
-  measurement-entries : (m : ℕ) (w : Walk) (j : Join) (pivot : ℕ) (k : PrecomputedActivePauliMeasurementKernel) (a : ActivePauliAction) → length (w .written .steps) ≡ 2 * m
-      → Grown (measurementStep w j pivot k .written) (u .written) → k .action ≡ a
-      → (getD (measurementAt plan m) 0 0 ≡ j .component) × (getD (measurementAt plan m) 3 0 ≡ a .nqubits) × (getD (measurementAt plan m) 4 0 ≡ a .xmask)
-      × (getD (measurementAt plan m) 5 0 ≡ a .zmask) × (getD (measurementAt plan m) 11 0 ≡ k .pivot)
-  unfolding measurementRow rowHead
-  measurement-entries m w j pivot k a l g made =
-      let e = measurement-row initial densePeak u rotations-wide measurements-wide m w j pivot k l g in (
-        ap (λ (row : List ℕ). getD row 0 0) e,
-        ap (λ (row : List ℕ). getD row 3 0) e ∙ ap (λ (b : ActivePauliAction). b .nqubits) made,
-        ap (λ (row : List ℕ). getD row 4 0) e ∙ ap (λ (b : ActivePauliAction). b .xmask) made,
-        ap (λ (row : List ℕ). getD row 5 0) e ∙ ap (λ (b : ActivePauliAction). b .zmask) made,
-        ap (λ (row : List ℕ). getD row 11 0) e,
-      )
-
   pub step-claim : {limit : ℕ} {w v : Walk} {i : Instruction} (m : ℕ) (r : ActiveOrder) → Stepped limit w i v → length (w .written .steps) ≡ 2 * m → Grown (v .written) (u .written)
       → Tracked w r → Follows m w → JoinClaim plan m r i
-  unfolding JoinClaim joinedComponents
+  unfolding JoinClaim joinedComponents rotationRow measurementRow
   step-claim m r (ignored x z phase angle sine cosine empty) l g t replay = inl (sym (t .order-same) ∙ empty)
   step-claim {limit = limit} {w = w} m r (rotated width x z phase angle sine cosine k wide active small fits made) l g t replay =
       let j = joinOf x z w in
-      let row = rotation-entries m w j k (localAction x z phase w j) l g (rotation-action limit (localAction x z phase w j) phase angle sine cosine k made) in
+      let row = head-entries (rotationAt plan m) _ (j .component) _ _ (k .action) (localAction x z phase w j)
+      (rotation-row initial densePeak u rotations-wide measurements-wide m w j k l g)
+      (rotation-action limit (localAction x z phase w j) phase angle sine cosine k made) in
       let component = step-joined initial densePeak u rotations-wide measurements-wide {limit = limit} m r (rotated width x z phase angle sine cosine k wide active small fits made) l g t replay
       (getD (rotationAt plan m) 0 0) in
       inr record {
@@ -191,11 +176,13 @@ module _ (initial densePeak : ℕ) (u : Walk) (rotations-wide : AllOf 21 (u .wri
   step-claim {limit = limit} {w = w} m r (measured width x z phase pivot k wide active small fits below inside made) l g t replay =
       let j = joinOf x z w in
       let kept = measurement-keeps limit (localAction x z phase w j) phase (placeOf (getD (w .order) pivot 0) (j .members)) k made in
-      let row = measurement-entries m w j pivot k (localAction x z phase w j) l g (kept .0) in
+      let row = head-entries (measurementAt plan m) _ (j .component) _ _ (k .action) (localAction x z phase w j)
+      (measurement-row initial densePeak u rotations-wide measurements-wide m w j pivot k l g) (kept .0) in
+      let named = measurement-named initial densePeak u rotations-wide measurements-wide m w j pivot k l g in
       let component = step-joined initial densePeak u rotations-wide measurements-wide {limit = limit} m r (measured width x z phase pivot k wide active small fits below inside made) l g t replay
       (getD (measurementAt plan m) 0 0) in
       let same = component ∙ ap (λ (c : ℕ). getD (j .components) c []) (row .0) ∙ target-members w r t x z active in
-      let local = row .4 ∙ kept .1 in record {
+      let local = named .1 ∙ kept .1 in record {
         kind = measurement-kind initial densePeak u rotations-wide measurements-wide m w j pivot k l g;
         holds = join-holds w r t width x z wide (replayJoined plan m (replayAfter plan m) (getD (measurementAt plan m) 0 0)) (measurementAt plan m) same (row .1) (row .2) (row .3);
         pivot-active = subst (λ (o : List ℕ). pivot < length o) (t .order-same) below;

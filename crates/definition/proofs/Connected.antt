@@ -6,7 +6,7 @@ use mathlib.Core.Bool.{Bool, false, not, _||_}
 use mathlib.Core.List.{List, [], _∷_, map}
 use Prim.Native.Nat.{ℕ, suc, _+_, _-_, _*_, _^_, _≤_, _<_, min, max}
 use native.Mathlib.Omega.{arith}
-use lib.ListN.{length, getD, take, drop, length-take}
+use lib.ListN.{length, getD, take, drop, length-take, List·getD-eq-default}
 use lib.Seq.{drop-cons}
 use borrow.Author.Tests.{eq-eqb, le-ltb}
 use Rattle.records.specs.Record.{instructionsOf}
@@ -28,7 +28,7 @@ use Rattle.definition.proofs.Replay.{ReplayIs, run-replay, start-replay
 use Rattle.definition.proofs.Longest.{start-long}
 use Rattle.definition.proofs.Claims.{map-same, concat-numbers, map-entries, start-order, run-count, next-grows, step-claim, run-long, start-is-long, peak-total}
 use Rattle.definition.proofs.Gathering.{all-gather}
-use Rattle.definition.proofs.Room.{plan-fits}
+use Rattle.definition.proofs.Room.{component-count, plan-fits}
 use Rattle.definition.proofs.Accepted.{accepted}
 
 start-peak : (k : ℕ) → start k .peak ≡ liveAt (activeStart k)
@@ -98,6 +98,10 @@ module _ (limit k densePeak : ℕ) (is : List Instruction) (u : Walk) (run : Run
         ap concat (map-same (replayAfter plan m) (λ i. getD components i []) (at .follows) (numbersFrom 0 (length (u .components))))
         ∙ concat-numbers components (length (u .components)) (at .components-within)
 
+    beyond : (i : ℕ) → plan .componentCount ≤ i → replayAfter plan m i ≡ []
+    unfolding planFrom
+    beyond i h = at .follows i ∙ List·getD-eq-default components [] (let w = at .components-within in omega arith)
+
     rearranged : Rearranged (replayMembers plan (replayAfter plan m)) (now-active .order)
     rearranged a = ap (occurrences a) members-are ∙ at .tracked .holds .held a
 
@@ -139,6 +143,11 @@ module _ (limit k densePeak : ℕ) (is : List Instruction) (u : Walk) (run : Run
             of-run i rest (more s later) =
                 step-claim k densePeak u rotations-wide measurements-wide m now-active s (at .steps-same) (run-grown later) (at .tracked) (at .follows)
 
+  -- the components are those at the start and one for each promotion
+  made : plan .componentCount ≡ k + total (map isPromotion is)
+  unfolding planFrom
+  made = component-count k run
+
   -- the plan's peak is the greatest live dimension over all moments
   peak-is : plan .peak ≡ greatest (map liveAt (activeStart k ∷ moments (activeStart k) is))
   unfolding planFrom
@@ -170,6 +179,8 @@ module _ (limit k densePeak : ℕ) (is : List Instruction) (u : Walk) (run : Run
       let at = cut m h in record {
         rearrangement = rearranged m at;
         no-repeats = once m at;
+        none-beyond = beyond m at;
+        all-made = made;
         count = counted m at;
         same-component = same-components m at;
         joins = claims m at;

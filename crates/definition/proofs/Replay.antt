@@ -213,7 +213,7 @@ module _ (initial densePeak : ℕ) (u : Walk) (rotations-wide : AllOf 21 (u .wri
       (same-or-not c component)
 
   -- the component and the local pivot that a measurement's row names
-  measurement-named : (m : ℕ) (w : Walk) (j : Join) (pivot : ℕ) (k : PrecomputedActivePauliMeasurementKernel) → length (w .written .steps) ≡ 2 * m
+  pub measurement-named : (m : ℕ) (w : Walk) (j : Join) (pivot : ℕ) (k : PrecomputedActivePauliMeasurementKernel) → length (w .written .steps) ≡ 2 * m
       → Grown (measurementStep w j pivot k .written) (u .written)
       → (getD (measurementAt plan m) 0 0 ≡ j .component) × (getD (measurementAt plan m) 11 0 ≡ k .pivot)
   unfolding measurementRow rowHead

@@ -15,7 +15,7 @@ use Rattle.records.specs.declared.Instruction.{Instruction}
 use Rattle.definition.specs.Lists.{numbersFrom}
 use Rattle.definition.specs.Plan.{Plan, planned, planOf}
 use Rattle.definition.specs.Circuits.{enough}
-use Rattle.definition.specs.Connectivity.{ActiveOrder, activeStart, activeAfter, withLinks, advanced, setsOf, liveAt, momentsOf, moments, replayJoined, replayAfter, longestOf, measurementAt, Connected}
+use Rattle.definition.specs.Connectivity.{ActiveOrder, activeStart, activeAfter, withLinks, advanced, setsOf, liveAt, momentsOf, moments, replayJoined, replayAfter, longestOf, measurementAt, Connected, replayMembers, rotationAt}
 use Rattle.definition.proofs.Connected.{connected}
 
 -- 1.0 as bits
@@ -113,6 +113,23 @@ replay :
     ∷ []
 unfolding replayAfter
 replay = refl
+
+-- how many members there are, and none beyond the five components: the four at the start and the promoted one
+counts : map (λ m. length (replayMembers plan (replayAfter plan m))) (numbersFrom 0 11) ≡ 4 ∷ 4 ∷ 4 ∷ 4 ∷ 3 ∷ 4 ∷ 4 ∷ 4 ∷ 4 ∷ 4 ∷ 4 ∷ []
+unfolding replayAfter
+counts = refl
+
+beyond : map (replayAfter plan 10) (5 ∷ 6 ∷ []) ≡ [] ∷ [] ∷ []
+unfolding replayAfter
+beyond = refl
+
+-- just after the join of record 7, x = 28 at width 4: the bin of component 3 and the row's local width 2, x = 3, z = 0
+rotated : replayJoined plan 7 (replayAfter plan 7) (getD (rotationAt plan 7) 0 0) ≡ 3 ∷ 4 ∷ []
+unfolding replayJoined replayAfter
+rotated = refl
+
+rotated-row : take 6 (rotationAt plan 7) ≡ 3 ∷ 5 ∷ 2 ∷ 2 ∷ 3 ∷ 0 ∷ []
+rotated-row = refl
 
 -- the sets that the chains gather, from the instructions: the same at the end
 sets : setsOf (activeAt 10) ≡ (0 ∷ 2 ∷ []) ∷ [] ∷ [] ∷ (3 ∷ 4 ∷ []) ∷ [] ∷ []

@@ -121,7 +121,7 @@ pub record Gathers (r : ActiveOrder) : Type 0 where
       (a b : ℕ) → Member a (r .order) → Member b (r .order)
       → ((i : ℕ) × Member a (getD (setsOf r) i []) × Member b (getD (setsOf r) i [])) ↔ Linked (r .links) a b
 
--- "after each join (its links counted, the pivot still on the roll), promotion and removal"
+-- "after each join (its links counted, the pivot still on the roll), promotion and removal". A rotation where nothing is active has no join: its moment is as before
 unfoldable pub momentsOf : ActiveOrder → Instruction → List ActiveOrder
 unfolding withLinks advanced
 momentsOf r (Rotation width x z phase angle sine cosine) = withLinks r (Rotation width x z phase angle sine cosine) ∷ []
@@ -200,7 +200,7 @@ unfolding replayJoined
 replayAfter p zero = replayStart (p .initialComponents)
 replayAfter p (suc m) = changedBy (kindAt p m) p m (replayJoined p m (replayAfter p m))
 
--- all members, by ascending number
+-- all members, by ascending number; `Connected.none-beyond` says that no other component has any
 abbrev pub replayMembers : Plan → Replayed → List ℕ
 replayMembers p b = concat (map b (numbersFrom 0 (p .componentCount)))
 
@@ -279,6 +279,8 @@ isMeasurement DormantBranch = 0
 pub record Connected (k : ℕ) (is : List Instruction) (p : Plan) (m : ℕ) : Type 0 where
   pub rearrangement : Rearranged (replayMembers p (replayAfter p m)) (activeAfter (activeStart k) (take m is) .order)
   pub no-repeats : NoRepeats (replayMembers p (replayAfter p m))
+  pub none-beyond : (i : ℕ) → p .componentCount ≤ i → replayAfter p m i ≡ []
+  pub all-made : p .componentCount ≡ k + total (map isPromotion is)
   pub count : length (replayMembers p (replayAfter p m)) + total (map isMeasurement (take m is)) ≡ k + total (map isPromotion (take m is))
   pub same-component :
       (a b : ℕ) → Member a (activeAfter (activeStart k) (take m is) .order) → Member b (activeAfter (activeStart k) (take m is) .order)
