@@ -11,7 +11,7 @@ use lib.ListN.{length, getD, take, set, length-set, length-append, length-map, L
 use lib.Seq.{getD-set-same, getD-set-other, getD-append-seam}
 use borrow.Author.Tests.{eq-eqb, ne-eqb}
 use Rattle.definition.specs.Lists.{removeAt, numbersFrom, concat}
-use Rattle.definition.specs.Components.{support, orFirst, meeting, touched, sourcesOf, joined}
+use Rattle.definition.specs.Components.{reached, support, orFirst, meeting, touched, sourcesOf, joined}
 use Rattle.definition.specs.Connectivity.{occurrences, Member, NoRepeats, Rearranged, ActiveOrder, activeStart, supportOf, merged, classOf, replayJoin, joinedMembers}
 use Rattle.definition.proofs.Counting.{same-or-not, member-or-not, one-here, none-here, member-head, member-cons, occurrences-append, occurrences-concat-append, occurrences-set, occurrences-listed, member-listed, occurrences-removeAt, numbers-once, numbers-bounds, length-numbers}
 use Rattle.definition.proofs.Joins.{meet-shares, shares-meet, meeting-meets, meets-meeting, meeting-once, sources-same, length-joined, joined-is, joined-count, gathered-joined, join-cases, join-target, gathered-from, gathered-holds}
@@ -80,7 +80,7 @@ first-same (b ∷ order) d e m n =
 
 module _ (cs : List (List ℕ)) (r : ActiveOrder) (h : Holds cs r) (x z : ℕ) where
   abbrev pub coordinates : List ℕ
-  coordinates = orFirst (r .order) (support x z (r .order))
+  coordinates = reached x z (r .order)
 
   abbrev pub touches : List ℕ
   touches = touched x z (r .order) cs
@@ -171,11 +171,15 @@ module _ (cs : List (List ℕ)) (r : ActiveOrder) (h : Holds cs r) (x z : ℕ) w
   abbrev class : ℕ → ℕ
   class = classOf (r .links)
 
-  abbrev reached : List ℕ
-  reached = support x z (r .order)
+  abbrev linking : List ℕ
+  linking = support x z (r .order)
+
+  -- where the support is not empty, the coordinates are the support
+  coordinates-are : (linking ≡ []) ⊎ (coordinates ≡ linking)
+  coordinates-are = anchored-cases (r .order) linking
 
   coordinate-active : (d : ℕ) → Member d coordinates → Member d (r .order)
-  coordinate-active d m = anchored-member (r .order) reached (support-member x z (r .order)) d m
+  coordinate-active d m = anchored-member (r .order) linking (support-member x z (r .order)) d m
 
   -- one in a source shares a component with one of the coordinates
   source-shares : (a : ℕ) → InSource a → (d : ℕ) × Member d coordinates × SameList cs a d
@@ -186,7 +190,7 @@ module _ (cs : List (List ℕ)) (r : ActiveOrder) (h : Holds cs r) (x z : ℕ) w
       (s .0, holds-source (s .0) d (listed-below cs (s .0) d (s .2)) m (s .2), s .1)
 
   -- with an empty support the sources are the first coordinate's component alone
-  empty-shares : reached ≡ [] → (a b : ℕ) → InSource a → InSource b → SameList cs a b
+  empty-shares : linking ≡ [] → (a b : ℕ) → InSource a → InSource b → SameList cs a b
   empty-shares e a b sa sb =
       let ka = source-shares a sa in
       let kb = source-shares b sb in
@@ -198,37 +202,37 @@ module _ (cs : List (List ℕ)) (r : ActiveOrder) (h : Holds cs r) (x z : ℕ) w
       (kb .2 .0, subst (λ (c : ℕ). Member a (getD cs c [])) one (ka .2 .1), kb .2 .1)
 
   -- else one is in a source exactly when its class is that of a coordinate of the support
-  source-class : orFirst (r .order) reached ≡ reached → (a : ℕ) → Member a (r .order) → InSource a → Touches class reached a
+  source-class : coordinates ≡ linking → (a : ℕ) → Member a (r .order) → InSource a → Touches class linking a
   source-class e a active s =
       let k = source-shares a s in
       (k .0, subst (λ (l : List ℕ). Member (k .0) l) e (k .1), h .classes a (k .0) active (coordinate-active (k .0) (k .1)) .0 (k .2))
 
-  class-source : orFirst (r .order) reached ≡ reached → (a : ℕ) → Member a (r .order) → Touches class reached a → InSource a
+  class-source : coordinates ≡ linking → (a : ℕ) → Member a (r .order) → Touches class linking a → InSource a
   class-source e a active t =
       let m : Member (t .0) coordinates = subst (λ (l : List ℕ). Member (t .0) l) (sym e) (t .1) in
       shares-source a (t .0) m (h .classes a (t .0) active (coordinate-active (t .0) m) .1 (t .2))
 
-  pub joined-classes : (a b : ℕ) → Member a (r .order) → Member b (r .order) → SameList (joined cs sources) a b ↔ (merged class reached a ≡ merged class reached b)
+  pub joined-classes : (a b : ℕ) → Member a (r .order) → Member b (r .order) → SameList (joined cs sources) a b ↔ (merged class linking a ≡ merged class linking b)
   joined-classes a b ma mb = (
-    λ s. merged-same class reached a b .1 (to-classes (shares-before a b s)),
-    λ e. joined-shares a b (to-lists (merged-same class reached a b .0 e)),
+    λ s. merged-same class linking a b .1 (to-classes (shares-before a b s)),
+    λ e. joined-shares a b (to-lists (merged-same class linking a b .0 e)),
   )
     where
-      to-classes : SameList cs a b ⊎ (InSource a × InSource b) → (class a ≡ class b) ⊎ (Touches class reached a × Touches class reached b)
+      to-classes : SameList cs a b ⊎ (InSource a × InSource b) → (class a ≡ class b) ⊎ (Touches class linking a × Touches class linking b)
       to-classes (inl s) = inl (h .classes a b ma mb .0 s)
       to-classes (inr s) =
           ⊎-elim
           (λ e. inl (h .classes a b ma mb .0 (empty-shares e a b (s .0) (s .1))))
           (λ e. inr (source-class e a ma (s .0), source-class e b mb (s .1)))
-          (anchored-cases (r .order) reached)
+          coordinates-are
 
-      to-lists : (class a ≡ class b) ⊎ (Touches class reached a × Touches class reached b) → SameList cs a b ⊎ (InSource a × InSource b)
+      to-lists : (class a ≡ class b) ⊎ (Touches class linking a × Touches class linking b) → SameList cs a b ⊎ (InSource a × InSource b)
       to-lists (inl e) = inl (h .classes a b ma mb .1 e)
       to-lists (inr t) =
           ⊎-elim
           (λ e. let n : Member (t .0 .0) [] = subst (λ (l : List ℕ). Member (t .0 .0) l) e (t .0 .1) in absurd (omega arith))
           (λ e. inr (class-source e a ma (t .0), class-source e b mb (t .1)))
-          (anchored-cases (r .order) reached)
+          coordinates-are
 
 -- a join keeps the invariant, with its support among the links
 pub holds-join : (cs : List (List ℕ)) (r : ActiveOrder) (width x z : ℕ) → width ≡ length (r .order) → Holds cs r

@@ -26,13 +26,17 @@ abbrev pub orFirst : List ℕ → List ℕ → List ℕ
 orFirst order [] = take 1 order
 orFirst order (c ∷ s) = c ∷ s
 
+-- the coordinates whose components an instruction touches
+abbrev pub reached : ℕ → ℕ → List ℕ → List ℕ
+reached x z order = orFirst order (support x z order)
+
 -- "Touched: components of" these coordinates, ascending; n is the number of the first component listed
 abbrev pub meeting : ℕ → List ℕ → List (List ℕ) → List ℕ
 meeting n s [] = []
 meeting n s (m ∷ cs) = let rest = meeting (suc n) s cs in cond (meet s m) (n ∷ rest) rest
 
 unfoldable pub touched : ℕ → ℕ → List ℕ → List (List ℕ) → List ℕ
-touched x z order cs = meeting 0 (orFirst order (support x z order)) cs
+touched x z order cs = meeting 0 (reached x z order) cs
 
 -- "the largest touched, smallest number on a tie": a later one has to be larger
 abbrev pub larger : List (List ℕ) → ℕ → ℕ → ℕ
