@@ -58,6 +58,18 @@ fn promote(components: &mut Components, component: usize) -> Result<(), String> 
     Ok(())
 }
 
+/// Joins the sources that a row names into its component.
+fn join_row(
+    plan: &ActiveComponentPlan,
+    components: &mut Components,
+    component: usize,
+    (offset, count): (usize, usize),
+    width: usize,
+) -> Result<(), String> {
+    let sources = sources(plan, offset, count)?;
+    join(components, sources, component, width)
+}
+
 fn rotate(
     plan: &ActiveComponentPlan,
     components: &mut Components,
@@ -67,13 +79,8 @@ fn rotate(
         .rotations
         .get(payload)
         .ok_or("a step names no rotation row")?;
-    let sources = sources(plan, row.merge_offset, row.merge_count)?;
-    join(
-        components,
-        sources,
-        row.component,
-        row.kernel.action.nqubits,
-    )
+    let merge = (row.merge_offset, row.merge_count);
+    join_row(plan, components, row.component, merge, row.kernel.action.nqubits)
 }
 
 fn measure(
@@ -85,13 +92,8 @@ fn measure(
         .measurements
         .get(payload)
         .ok_or("a step names no measurement row")?;
-    let sources = sources(plan, row.merge_offset, row.merge_count)?;
-    join(
-        components,
-        sources,
-        row.component,
-        row.kernel.action.nqubits,
-    )?;
+    let merge = (row.merge_offset, row.merge_count);
+    join_row(plan, components, row.component, merge, row.kernel.action.nqubits)?;
     let members = &mut components[row.component];
     if row.kernel.pivot >= members.len() {
         return Err(format!(
