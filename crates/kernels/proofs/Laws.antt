@@ -10,9 +10,10 @@ use lib.Arith.{lt-one}
 use lib.Pow.{pow-mono, pow-lt, pow-add, shr-lt, shl-shr}
 use lib.Count.{onesIn, ones, ones-step, leadingZeros, leading-top}
 use lib.IntN.{pos}
-use lib.Ieee.{fin, binary64, size, ofBits, toBits, fits, isNan, nanBits}
-use lib.Ieee.Bits.{ofBits-toBits, nanBits-is}
+use lib.Ieee.{fin, binary64, size, ofBits, toBits, fits, nanBits}
+use lib.Ieee.Bits.{ofBits-toBits, nanBits-above}
 use lib.Ieee.Digits.{size-lt, size-le}
+use borrow.Author.Tests.{le-ltb}
 use Rattle.kernels.specs.Bits.{highestBit, bitAt}
 
 -- the ones among the d lowest digits are all the ones of a number of d digits
@@ -76,6 +77,6 @@ exp2-bits k =
 pub exp2-of-bits : (k : ℕ) → k ≤ 1023 → ofBits binary64 ((k + 1023) * 2 ^ 52) ≡ fin false 1 (pos k)
 exp2-of-bits k h = ap (λ (b : ℕ). ofBits binary64 b) (sym (exp2-bits k)) ∙ ofBits-toBits binary64 (fin false 1 (pos k)) (exp2-fits k h)
 
-pub exp2-no-nan : (k : ℕ) → k ≤ 1023 → T (not (nanBits binary64 ((k + 1023) * 2 ^ 52)))
-unfolding isNan
-exp2-no-nan k h = subst (λ (b : Bool). T (not b)) (sym (nanBits-is binary64 ((k + 1023) * 2 ^ 52) ∙ ap isNan (exp2-of-bits k h))) tt
+-- a pattern is no NaN's if its exponent's field and digits are at most those of the infinity
+pub no-nan-below : (n : ℕ) → n % 2 ^ 63 ≤ 2047 * 2 ^ 52 → T (not (nanBits binary64 n))
+no-nan-below n h = subst (λ (b : Bool). T (not b)) (sym (nanBits-above binary64 n ∙ le-ltb (2047 * 2 ^ 52) (n % 2 ^ 63) h)) tt

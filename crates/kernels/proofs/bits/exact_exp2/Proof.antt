@@ -1,11 +1,12 @@
 -- `bits::exact_exp2` meets its contract: the pattern with the exponent's field k + 1023 and no digits is 2 ^ k, and it is no NaN's.
 use mathlib.Core.Path.{sym, ap, _∙_}
 use mathlib.Core.Bool.{Bool, false, cond}
+use native.Mathlib.Omega.{arith}
 use lib.IntN.{pos}
 use lib.Ieee.{fin, inf, nanBits, ofBits}
 use borrow.Author.Needs.{needs}
 use borrow.Author.Tests.{le-leb, lt-leb}
-use Rattle.kernels.proofs.Laws.{exp2-of-bits, exp2-no-nan}
+use Rattle.kernels.proofs.Laws.{exp2-of-bits, no-nan-below}
 use Rattle.kernels.proofs.bits.exact_exp2.Statement.{statement}
 use Rattle.kernels.proofs.bits.exact_exp2.Tie as tie
 
@@ -24,7 +25,7 @@ mul-result : tie.Need-mul-result
 mul-result c = search needs
 
 float-from-bits-result-2 : tie.Need-float-from-bits-result-2
-float-from-bits-result-2 c = exp2-no-nan (c .before .args .k) (c .if1 .left)
+float-from-bits-result-2 c = no-nan-below _ (omega arith)
 
 returns-2 : tie.Need-returns-2
 returns-2 c =

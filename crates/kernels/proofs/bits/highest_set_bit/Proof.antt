@@ -1,6 +1,5 @@
 -- `bits::highest_set_bit` meets its contract: a word that is not 0 has at most 63 leading zeros, and 0 has 64.
-use mathlib.Core.Path.{_≡_, refl, sym, ap}
-use Prim.Native.Nat.{ℕ, _<_}
+use mathlib.Core.Path.{refl, sym, ap}
 use native.Mathlib.Omega.{arith}
 use lib.Count.{leadingZeros, leading-le}
 use Rattle.kernels.specs.Bits.{highestBit}
@@ -18,10 +17,7 @@ cast-result c = omega (arith, leading-le 64 (c .before .args .value))
 sub-result : tie.Need-sub-result
 sub-result c =
     let x = c .before .args .value in
-    leading-below x (positive x (c .if1 .left)) (c .before .fits .value .fits)
-  where
-    positive : (x : ℕ) → (x ≡ 0 → ⊥) → 0 < x
-    positive x n = omega (arith, n)
+    let small = leading-below x (omega (arith, c .if1 .left)) (c .before .fits .value .fits) in omega arith
 
 returns-2 : tie.Need-returns-2
 unfolding highestBit
