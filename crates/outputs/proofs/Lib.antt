@@ -1,0 +1,4 @@
+pub mod Fill
+pub mod Words
+pub mod Groups
+pub mod Parts

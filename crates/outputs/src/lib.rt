@@ -1,0 +1,3 @@
+// What planning writes into the lent buffers: rows and steps, longest sizes, groups, and zeros.
+pub mod buffers;
+pub mod rows;

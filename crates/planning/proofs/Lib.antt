@@ -1,0 +1,5 @@
+pub mod Numbers
+pub mod Arrays
+pub mod Masks
+pub mod Gathers
+pub mod Sources

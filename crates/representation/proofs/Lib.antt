@@ -1,0 +1,9 @@
+pub mod Picked
+pub mod Ascending
+pub mod Sources
+pub mod Gathering
+pub mod Joining
+pub mod Moving
+pub mod LocalMasks
+pub mod Groups
+pub mod Sums
