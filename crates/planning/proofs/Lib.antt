@@ -3,3 +3,4 @@ pub mod Arrays
 pub mod Masks
 pub mod Gathers
 pub mod Sources
+pub mod Sums

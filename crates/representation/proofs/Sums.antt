@@ -11,6 +11,7 @@ use Rattle.definition.specs.Lists.{total, removeAt}
 use Rattle.definition.specs.Components.{membersOf, sizeOf, gathered, joined, amplitudes, liveDimension}
 use Rattle.definition.specs.Connectivity.{Member, NoRepeats}
 use Rattle.definition.proofs.Counting.{member-head, member-tail}
+use Rattle.planning.specs.Tally.{powers}
 use Rattle.definition.proofs.Room.{total-set, total-append, shares, emptied-total, joined-total}
 
 -- a component with members has 2 to the power of its size amplitudes
@@ -18,10 +19,7 @@ pub amplitudes-some : (m : List ℕ) → 0 < length m → amplitudes m ≡ 2 ^ l
 amplitudes-some [] h = absurd (omega arith)
 amplitudes-some (a ∷ m) h = refl
 
--- the dimension that components of these numbers have by the sizes
-abbrev pub powers : List ℕ → List ℕ → ℕ
-powers size ss = total (map (λ s. 2 ^ getD size s 0) ss)
-
+-- the listed components' dimensions by the sizes are their amplitudes
 pub powers-shares : (size : List ℕ) (cs : List (List ℕ)) (ss : List ℕ) → ((c : ℕ) → Member c ss → (getD size c 0 ≡ sizeOf cs c) × (0 < sizeOf cs c))
     → powers size ss ≡ shares amplitudes cs ss
 powers-shares size cs [] f = refl
