@@ -16,5 +16,6 @@ pub mod Accepted
 pub mod Works
 pub mod Room
 pub mod States
+pub mod Sizes
 pub mod Connected
 pub mod Worked

@@ -263,7 +263,7 @@ widthOf Expectation = 0
 widthOf DormantBranch = 0
 
 -- each component alone has dimension 2
-alone-live : (xs : List ℕ) → total (map amplitudes (map (λ c. c ∷ []) xs)) ≡ 2 * length xs
+pub alone-live : (xs : List ℕ) → total (map amplitudes (map (λ c. c ∷ []) xs)) ≡ 2 * length xs
 alone-live [] = refl
 alone-live (x ∷ xs) = let r = alone-live xs in omega arith
 
@@ -536,26 +536,48 @@ accepted-fits limit h ws l p a =
     subst₂ (λ (q : Plan) (n : ℕ). Fits q n) (sym (a .plan-is)) (instructions-length ws) fits
 
 -- refusal 3 was not met
-or-false : (a b : Bool) → a || b ≡ false → (a ≡ false) × (b ≡ false)
+pub or-false : (a b : Bool) → a || b ≡ false → (a ≡ false) × (b ≡ false)
 or-false true b e = let z : _≡_ {A = ℕ} 0 1 = cc in absurd (omega arith)
 or-false false b e = (refl, e)
 
--- lengths that refusal 3 lets through hold a plan that fits
-lent-enough : (n : ℕ) (l : Lengths) (p : Plan) → buffersRefused n l ≡ false → Fits p n → FitsIn p l
-lent-enough n l p e f =
+-- the lengths that refusal 3 lets through, with n records
+pub record Enough (n : ℕ) (l : Lengths) : Type 0 where
+  pub steps : 2 * n ≤ l .steps
+  pub merges : n + 512 ≤ l .merges
+  pub sizes : 512 ≤ l .sizes
+  pub rotations : 21 * n ≤ l .rotations
+  pub promotions : n ≤ l .promotions
+  pub measurements : 19 * n ≤ l .measurements
+  pub groups : 1024 ≤ l .groups
+
+pub enough : (n : ℕ) (l : Lengths) → buffersRefused n l ≡ false → Enough n l
+enough n l e =
     let groups = or-false _ (ltb (l .groups) 1024) e in
     let measurements = or-false _ (ltb (l .measurements) (19 * n)) (groups .0) in
     let promotions = or-false _ (ltb (l .promotions) n) (measurements .0) in
     let rotations = or-false _ (ltb (l .rotations) (21 * n)) (promotions .0) in
     let sizes = or-false _ (ltb (l .sizes) 512) (rotations .0) in
     let merges = or-false (ltb (l .steps) (2 * n)) (ltb (l .merges) (n + 512)) (sizes .0) in record {
-      steps = let h = ltb-false (l .steps) (2 * n) (merges .0) in omega (arith, f .steps);
-      merges = let h = ltb-false (l .merges) (n + 512) (merges .1) in omega (arith, f .merges);
-      sizes = let h = ltb-false (l .sizes) 512 (sizes .1) in omega (arith, f .sizes);
-      rotations = let h = ltb-false (l .rotations) (21 * n) (rotations .1) in omega (arith, f .rotations);
-      promotions = let h = ltb-false (l .promotions) n (promotions .1) in omega (arith, f .promotions);
-      measurements = let h = ltb-false (l .measurements) (19 * n) (measurements .1) in omega (arith, f .measurements);
-      groups = let h = ltb-false (l .groups) 1024 (groups .1) in omega (arith, f .groups);
+      steps = ltb-false (l .steps) (2 * n) (merges .0);
+      merges = ltb-false (l .merges) (n + 512) (merges .1);
+      sizes = ltb-false (l .sizes) 512 (sizes .1);
+      rotations = ltb-false (l .rotations) (21 * n) (rotations .1);
+      promotions = ltb-false (l .promotions) n (promotions .1);
+      measurements = ltb-false (l .measurements) (19 * n) (measurements .1);
+      groups = ltb-false (l .groups) 1024 (groups .1);
+    }
+
+-- they hold a plan that fits
+lent-enough : (n : ℕ) (l : Lengths) (p : Plan) → buffersRefused n l ≡ false → Fits p n → FitsIn p l
+lent-enough n l p e f =
+    let m = enough n l e in record {
+      steps = omega (arith, f .steps, m .steps);
+      merges = omega (arith, f .merges, m .merges);
+      sizes = omega (arith, f .sizes, m .sizes);
+      rotations = omega (arith, f .rotations, m .rotations);
+      promotions = omega (arith, f .promotions, m .promotions);
+      measurements = omega (arith, f .measurements, m .measurements);
+      groups = omega (arith, f .groups, m .groups);
     }
 
 module _ (limit : ℕ) (h : Head) (ws : List ℕ) (l : Lengths) (p : Plan) (e : planOf limit h ws l ≡ planned p) where

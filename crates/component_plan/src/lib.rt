@@ -1,0 +1,357 @@
+// The component planner: the plan of a program, written into seven lent buffers.
+ghost use mathlib.Core.Path.{_≡_};
+ghost use mathlib.Core.Bool.{false};
+ghost use Prim.Native.Nat.{_<_, _^_};
+ghost use lib.IntN.{pos};
+ghost use lib.Ieee.{fin};
+ghost use Rattle.definition.specs.Plan.{chosen, buffersRefused, refusedAt};
+ghost use Rattle.walk.specs.Walking.{Buffers};
+ghost use Rattle.component_plan.specs.Answer.{Held, Answers, ReadAnswers, lentNumber, UsedFit, RestCleared};
+use kernels::bits::ActiveLength;
+use kernels::bits::active_length;
+use outputs::buffers::allocated;
+use outputs::buffers::clear_from;
+use records::Checked;
+use records::Head;
+use records::check_records;
+use walk::Summary;
+use walk::Walked;
+use walk::walk;
+
+// The dimension's limit: a component of so many members is too large.
+const LIMIT: u64 = 62;
+
+// The scalar fields of a plan.
+pub struct ActiveComponentPlan {
+    pub selected: bool,
+    pub initial_components: u64,
+    pub component_count: u64,
+    pub estimated_dense_work: f64,
+    pub estimated_component_work: f64,
+    pub dense_peak_dimension: u64,
+    pub component_peak_live_dimension: u64,
+    pub component_allocated_dimension: u64,
+}
+
+// The answer: a plan's scalar fields, or the first refusal's number and record index.
+pub enum Planned {
+    Plan(ActiveComponentPlan),
+    Refused { number: u64, index: u64 },
+}
+
+// Whether the component path is worth its cost.
+fn choose(quantum: u64, dense: f64, component: f64, allocated: u64, dense_peak: u64) -> bool
+    ensures { λ r. ⌜ r ≡ chosen quantum dense component allocated «dense_peak» ⌝ }
+{
+    if quantum < 4 {
+        return false;
+    }
+    if !(1.8 * component <= dense) {
+        return false;
+    }
+    if !(8192.0 <= dense - component) {
+        return false;
+    }
+    std::num::nearest_u64_to_f64(allocated) <= 1.25 * std::num::nearest_u64_to_f64(dense_peak)
+}
+
+// Whether one of the buffers is too short for n records.
+fn buffers_short(
+    n: usize,
+    steps: usize,
+    merges: usize,
+    sizes: usize,
+    rotations: usize,
+    promotions: usize,
+    measurements: usize,
+    groups: usize,
+) -> bool
+    requires { ⌜ n < 2 ^ 58 ⌝ }
+    ensures { λ r. ⌜ r ≡ buffersRefused n (record { steps = steps; merges = merges; sizes = sizes; rotations = rotations; promotions = promotions; measurements = measurements; groups = groups }) ⌝ }
+{
+    if steps < 2 * n {
+        return true;
+    }
+    if merges < n + 512 {
+        return true;
+    }
+    if sizes < 512 {
+        return true;
+    }
+    if rotations < 21 * n {
+        return true;
+    }
+    if promotions < n {
+        return true;
+    }
+    if measurements < 19 * n {
+        return true;
+    }
+    groups < 1024
+}
+
+// The scalar fields of a plan that reads no record.
+fn unread_plan(initial_k: u64, dense_peak: u64) -> ActiveComponentPlan
+    ensures { λ r. ⌜ r ≡ record {
+      selected = false;
+      «initial_components» = «initial_k»;
+      «component_count» = 0;
+      «estimated_dense_work» = fin false 0 (pos 0);
+      «estimated_component_work» = fin false 0 (pos 0);
+      «dense_peak_dimension» = «dense_peak»;
+      «component_peak_live_dimension» = 0;
+      «component_allocated_dimension» = 0;
+    } ⌝ }
+{
+    ActiveComponentPlan {
+        selected: false,
+        initial_components: initial_k,
+        component_count: 0,
+        estimated_dense_work: 0.0,
+        estimated_component_work: 0.0,
+        dense_peak_dimension: dense_peak,
+        component_peak_live_dimension: 0,
+        component_allocated_dimension: 0,
+    }
+}
+
+// The scalar fields of a finished walk's plan.
+fn plan_of(initial_k: u64, dense_peak: u64, done: Summary, allocated: u64) -> ActiveComponentPlan
+    ensures { λ r. ⌜ r ≡ record {
+      selected = chosen (done .tally .quantum) (done .tally .dense) (done .tally .work) allocated «dense_peak»;
+      «initial_components» = «initial_k»;
+      «component_count» = done .count;
+      «estimated_dense_work» = done .tally .dense;
+      «estimated_component_work» = done .tally .work;
+      «dense_peak_dimension» = «dense_peak»;
+      «component_peak_live_dimension» = done .tally .peak;
+      «component_allocated_dimension» = allocated;
+    } ⌝ }
+{
+    let tally = done.tally;
+    ActiveComponentPlan {
+        selected: choose(
+            tally.quantum,
+            tally.dense,
+            tally.work,
+            allocated,
+            dense_peak,
+        ),
+        initial_components: initial_k,
+        component_count: done.count as u64,
+        estimated_dense_work: tally.dense,
+        estimated_component_work: tally.work,
+        dense_peak_dimension: dense_peak,
+        component_peak_live_dimension: tally.peak,
+        component_allocated_dimension: allocated,
+    }
+}
+
+// Refusals 2 to 4, or 0.
+fn lent_number(initial_k: u64, words: usize, short: bool) -> u64
+    ensures { λ r. ⌜ r ≡ lentNumber «initial_k» words short ⌝ }
+{
+    if words % 8 != 0 {
+        return 2;
+    }
+    if 8192 < words {
+        return 2;
+    }
+    if short {
+        return 3;
+    }
+    if 512 < initial_k { 4 } else { 0 }
+}
+
+// Zeroes what the used words leave of each buffer.
+fn clear_rest(
+    done: Summary,
+    n: usize,
+    steps: &mut [u64],
+    merges: &mut [u64],
+    sizes: &mut [u64],
+    rotations: &mut [u64],
+    promotions: &mut [u64],
+    measurements: &mut [u64],
+    groups: &mut [u64],
+)
+    requires { ⌜ UsedFit done n ⌝ }
+    ensures { λ _. ⌜ RestCleared done n (record { steps = now (steps .entry); merges = now (merges .entry); sizes = now (sizes .entry); rotations = now (rotations .entry); promotions = now (promotions .entry); measurements = now (measurements .entry); groups = now (groups .entry) }) (record { steps = now (steps .exit); merges = now (merges .exit); sizes = now (sizes .exit); rotations = now (rotations .exit); promotions = now (promotions .exit); measurements = now (measurements .exit); groups = now (groups .exit) }) ⌝ }
+{
+    let tally = done.tally;
+    clear_from(steps, 2 * n);
+    clear_from(merges, tally.merges);
+    clear_from(sizes, done.count);
+    clear_from(rotations, 21 * tally.rotations);
+    clear_from(promotions, tally.promotions);
+    clear_from(measurements, 19 * tally.measurements);
+    clear_from(groups, done.groups);
+}
+
+// The plan of a program whose records are read.
+fn plan_read(
+    limit: u64,
+    head: Head,
+    dense_peak: u64,
+    records: &[u64],
+    steps: &mut [u64],
+    merges: &mut [u64],
+    sizes: &mut [u64],
+    rotations: &mut [u64],
+    promotions: &mut [u64],
+    measurements: &mut [u64],
+    groups: &mut [u64],
+) -> Planned
+    ensures { λ r. ⌜ ReadAnswers limit head «dense_peak» (now (records .entry)) (record { steps = now (steps .entry); merges = now (merges .entry); sizes = now (sizes .entry); rotations = now (rotations .entry); promotions = now (promotions .entry); measurements = now (measurements .entry); groups = now (groups .entry) }) (record { steps = now (steps .exit); merges = now (merges .exit); sizes = now (sizes .exit); rotations = now (rotations .exit); promotions = now (promotions .exit); measurements = now (measurements .exit); groups = now (groups .exit) }) r ⌝ }
+{
+    let initial_k = head.initial_k;
+    let n = records.len() / 8;
+    let short = buffers_short(
+        n,
+        steps.len(),
+        merges.len(),
+        sizes.len(),
+        rotations.len(),
+        promotions.len(),
+        measurements.len(),
+        groups.len(),
+    );
+    let number = lent_number(initial_k, records.len(), short);
+    if number != 0 {
+        return Planned::Refused { number, index: 0 };
+    }
+    let checked = check_records(records, initial_k);
+    match checked {
+        Checked::Refused { number, index } => Planned::Refused { number, index },
+        Checked::Passed => {
+            let walked = walk(
+                limit,
+                initial_k as usize,
+                records,
+                steps,
+                merges,
+                sizes,
+                rotations,
+                promotions,
+                measurements,
+                groups,
+            );
+            match walked {
+                Walked::Stopped { number, index } => Planned::Refused { number, index },
+                Walked::Finished(done) => {
+                    clear_rest(
+                        done,
+                        n,
+                        steps,
+                        merges,
+                        sizes,
+                        rotations,
+                        promotions,
+                        measurements,
+                        groups,
+                    );
+                    let count = done.count;
+                    let all = allocated(&sizes[..count]);
+                    Planned::Plan(plan_of(initial_k, dense_peak, done, all))
+                }
+            }
+        }
+    }
+}
+
+// Zeroes the seven buffers.
+fn clear_all(
+    steps: &mut [u64],
+    merges: &mut [u64],
+    sizes: &mut [u64],
+    rotations: &mut [u64],
+    promotions: &mut [u64],
+    measurements: &mut [u64],
+    groups: &mut [u64],
+)
+    ensures { λ _. ⌜ Held (refusedAt 0 0) (record { steps = now (steps .entry); merges = now (merges .entry); sizes = now (sizes .entry); rotations = now (rotations .entry); promotions = now (promotions .entry); measurements = now (measurements .entry); groups = now (groups .entry) }) (record { steps = now (steps .exit); merges = now (merges .exit); sizes = now (sizes .exit); rotations = now (rotations .exit); promotions = now (promotions .exit); measurements = now (measurements .exit); groups = now (groups .exit) }) ⌝ }
+{
+    clear_from(steps, 0);
+    clear_from(merges, 0);
+    clear_from(sizes, 0);
+    clear_from(rotations, 0);
+    clear_from(promotions, 0);
+    clear_from(measurements, 0);
+    clear_from(groups, 0);
+}
+
+// The plan of a program, or its first refusal, after which all seven buffers are zero.
+pub fn build_active_component_plan(
+    head: Head,
+    records: &[u64],
+    steps: &mut [u64],
+    merges: &mut [u64],
+    sizes: &mut [u64],
+    rotations: &mut [u64],
+    promotions: &mut [u64],
+    measurements: &mut [u64],
+    groups: &mut [u64],
+) -> Planned
+    ensures { λ r. ⌜ Answers 62 head (now (records .entry)) (record { steps = now (steps .entry); merges = now (merges .entry); sizes = now (sizes .entry); rotations = now (rotations .entry); promotions = now (promotions .entry); measurements = now (measurements .entry); groups = now (groups .entry) }) (record { steps = now (steps .exit); merges = now (merges .exit); sizes = now (sizes .exit); rotations = now (rotations .exit); promotions = now (promotions .exit); measurements = now (measurements .exit); groups = now (groups .exit) }) r ⌝ }
+{
+    let initial_k = head.initial_k;
+    let max_k = head.max_k;
+    let nexpvals = head.nexpvals;
+    let length = active_length(max_k, LIMIT);
+    match length {
+        ActiveLength::TooLarge => {
+            clear_all(
+                steps,
+                merges,
+                sizes,
+                rotations,
+                promotions,
+                measurements,
+                groups,
+            );
+            Planned::Refused {
+                number: 1,
+                index: 0,
+            }
+        }
+        ActiveLength::Length(dense_peak) => {
+            if max_k < 8 || nexpvals != 0 {
+                clear_all(
+                    steps,
+                    merges,
+                    sizes,
+                    rotations,
+                    promotions,
+                    measurements,
+                    groups,
+                );
+                return Planned::Plan(unread_plan(initial_k, dense_peak));
+            }
+            let planned = plan_read(
+                LIMIT,
+                head,
+                dense_peak,
+                records,
+                steps,
+                merges,
+                sizes,
+                rotations,
+                promotions,
+                measurements,
+                groups,
+            );
+            if let Planned::Refused { number, index } = planned {
+                clear_all(
+                    steps,
+                    merges,
+                    sizes,
+                    rotations,
+                    promotions,
+                    measurements,
+                    groups,
+                );
+            }
+            planned
+        }
+    }
+}

@@ -1,0 +1,10 @@
+pub mod Patches
+pub mod Answers
+pub mod Openings
+pub mod Filling
+pub mod Reaching
+pub mod Joining
+pub mod Stepping
+pub mod Turning
+pub mod Ending
+pub mod Looping
