@@ -191,7 +191,7 @@ module _ (limit k densePeak : ℕ) (is : List Instruction) (u : Walk) (run : Run
       }
 
 -- a head with max_k of at least 8 and no expectation values has its records read
-read-head : (h : Head) → 8 ≤ h .«max_k» → h .nexpvals ≡ 0 → unread h ≡ false
+pub read-head : (h : Head) → 8 ≤ h .«max_k» → h .nexpvals ≡ 0 → unread h ≡ false
 read-head h wide none = ap₂ (λ (a b : Bool). a || not b) (le-ltb (h .«max_k») 8 wide) (eq-eqb (h .nexpvals) 0 none)
 
 -- Demand 3

@@ -41,6 +41,11 @@ member-head a xs = subst (λ (n : ℕ). 0 < n) (sym (one-here a a xs refl)) (ome
 pub member-tail : (a b : ℕ) (xs : List ℕ) → Member a xs → Member a (b ∷ xs)
 member-tail a b xs h = omega arith
 
+-- a list that has a member has a length
+pub member-length : (a : ℕ) (xs : List ℕ) → Member a xs → 0 < length xs
+member-length a [] m = absurd (omega arith)
+member-length a (x ∷ xs) m = omega arith
+
 -- a member of a list is its head or in its tail
 pub member-cons : (a b : ℕ) (xs : List ℕ) → Member a (b ∷ xs) → (a ≡ b) ⊎ Member a xs
 member-cons a b xs h = go (same-or-not a b)

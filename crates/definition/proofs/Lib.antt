@@ -18,4 +18,5 @@ pub mod Room
 pub mod States
 pub mod Sizes
 pub mod Connected
+pub mod Padded
 pub mod Worked

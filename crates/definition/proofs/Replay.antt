@@ -26,11 +26,11 @@ use Rattle.definition.proofs.Growth.{Extends, Grown, AllOf, row-at, ext
 -- ---- what was appended stands in the longer list
 
 -- a pair of words
-seam-first : (xs zs : List ℕ) (a b n : ℕ) → length xs ≡ n → Extends (xs ++ (a ∷ b ∷ [])) zs → getD zs n 0 ≡ a
+pub seam-first : (xs zs : List ℕ) (a b n : ℕ) → length xs ≡ n → Extends (xs ++ (a ∷ b ∷ [])) zs → getD zs n 0 ≡ a
 seam-first xs zs a b n l e =
     ap (λ (ys : List ℕ). getD ys n 0) (e .1 ∙ append-assoc xs (a ∷ b ∷ []) (e .0)) ∙ getD-at xs a (b ∷ e .0) 0 n l
 
-seam-second : (xs zs : List ℕ) (a b n : ℕ) → length xs ≡ n → Extends (xs ++ (a ∷ b ∷ [])) zs → getD zs (suc n) 0 ≡ b
+pub seam-second : (xs zs : List ℕ) (a b n : ℕ) → length xs ≡ n → Extends (xs ++ (a ∷ b ∷ [])) zs → getD zs (suc n) 0 ≡ b
 seam-second xs zs a b n l e =
     ap (λ (ys : List ℕ). getD ys (suc n) 0) (e .1 ∙ append-assoc xs (a ∷ b ∷ []) (e .0) ∙ sym (append-assoc xs (a ∷ []) (b ∷ e .0)))
     ∙ getD-at (xs ++ (a ∷ [])) b (e .0) 0 (suc n) (length-append xs (a ∷ []) ∙ omega arith)
@@ -45,7 +45,7 @@ seam-part xs ys zs e =
 seam-entry : {A : Type 0} (xs zs : List A) (a d : A) → Extends (xs ++ (a ∷ [])) zs → getD zs (length xs) d ≡ a
 seam-entry xs zs a d e = ap (λ (l : List _). getD l (length xs) d) (e .1 ∙ append-assoc xs (a ∷ []) (e .0)) ∙ getD-at xs a (e .0) d (length xs) refl
 
-seam-below : {A : Type 0} (xs zs : List A) (a : A) → Extends (xs ++ (a ∷ [])) zs → length xs < length zs
+pub seam-below : {A : Type 0} (xs zs : List A) (a : A) → Extends (xs ++ (a ∷ [])) zs → length xs < length zs
 seam-below xs zs a e = let f = extends-length (xs ++ (a ∷ [])) zs e in let g = length-append xs (a ∷ []) in omega arith
 
 -- a row

@@ -11,16 +11,12 @@ use Rattle.definition.specs.Lists.{placeOf}
 use Rattle.definition.specs.Walk.{Walk, joinOf, localAction, start, noStep, ignoredStep, promotionStep, rotationStep, measurementStep, rowHead, rotationRow, measurementRow}
 use Rattle.definition.specs.Connectivity.{Member, ActiveOrder, activeStart}
 use Rattle.definition.specs.Laws.{Whole, RowsBelow}
+use Rattle.definition.proofs.Counting.{member-length}
 use Rattle.definition.proofs.Steps.{Stepped, ignored, rotated, promoted, measured, recorded, detected, expected, branched, Run, done, more}
 use Rattle.definition.proofs.Growth.{each-more}
 use Rattle.definition.proofs.Joins.{gathered-from}
 use Rattle.definition.proofs.Invariant.{listed-active, active-listed, source-holds}
 use Rattle.definition.proofs.Tracking.{Tracked, activeOf, tracked-here, target-source, rotation-action, measurement-keeps, start-tracked, run-tracked}
-
--- a list that has a member has a length
-member-length : (a : ℕ) (xs : List ℕ) → Member a xs → 0 < length xs
-member-length a [] m = absurd (omega arith)
-member-length a (x ∷ xs) m = omega arith
 
 pub tracked-whole : (w : Walk) (r : ActiveOrder) → Tracked w r → Whole w
 unfolding joinOf

@@ -7,7 +7,7 @@ use native.Mathlib.Numerals.{add-one}
 use native.Mathlib.Omega.{arith}
 use lib.ListN.{length, getD, drop, set, replicate}
 use lib.Seq.{drop-cons, getD-set-same, getD-set-other}
-use Rattle.planning.proofs.Numbers.{same-or-not}
+use Rattle.definition.proofs.Counting.{same-or-not}
 
 -- the entries from a position on are the one there and those after it
 pub rest-at : (xs : List ℕ) (p : ℕ) → p < length xs → drop p xs ≡ getD xs p 0 ∷ drop (p + 1) xs

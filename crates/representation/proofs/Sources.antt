@@ -8,7 +8,7 @@ use native.Mathlib.Omega.{arith}
 use lib.ListN.{length, getD}
 use Rattle.definition.specs.Components.{membersOf, sizeOf, support, reached, meeting, touched, sourcesOf}
 use Rattle.definition.specs.Connectivity.{Member, ActiveOrder}
-use Rattle.definition.proofs.Counting.{member-at}
+use Rattle.definition.proofs.Counting.{member-length, member-at}
 use Rattle.definition.proofs.Joins.{meet-shares, shares-meet, meeting-meets, meets-meeting}
 use Rattle.kernels.specs.Bits.{bitAt}
 use Rattle.definition.proofs.Invariant.{touched-source, Holds, one-list, anchored-some, anchored-member, active-listed}
@@ -18,10 +18,6 @@ use Rattle.planning.specs.Positions.{picked, sourcesIn}
 use Rattle.representation.specs.Represents.{Represents}
 use Rattle.representation.proofs.Picked.{maskOf, mask-below, bit-below, picked-at, at-picked, picked-reached}
 use Rattle.representation.proofs.Ascending.{Ascending, meeting-ascending, sources-are}
-
-member-some : (a : ℕ) (xs : List ℕ) → Member a xs → 0 < length xs
-member-some a [] m = absurd (omega arith)
-member-some a (x ∷ xs) m = omega arith
 
 module _ (s : State) (cs : List (List ℕ)) (r : ActiveOrder) (h : Holds cs r) (rep : Represents s (r .order) cs) where
   -- the coordinate at a position is a member of the position's component
@@ -76,7 +72,7 @@ module _ (s : State) (cs : List (List ℕ)) (r : ActiveOrder) (h : Holds cs r) (
         let a = anchored-some (r .order) (support x z (r .order)) active in
         let on = anchored-member (r .order) (support x z (r .order)) (support-member x z (r .order)) (a .0) (a .1) in
         let l = active-listed cs r h (a .0) on in
-        member-some (0 + l .0) (meeting 0 (reached x z (r .order)) cs)
+        member-length (0 + l .0) (meeting 0 (reached x z (r .order)) cs)
         (meets-meeting 0 (reached x z (r .order)) cs (l .0) (l .1) (shares-meet (reached x z (r .order)) (membersOf cs (l .0)) (a .0) (a .1) (l .2)))
 
     -- so the sources are the definition's

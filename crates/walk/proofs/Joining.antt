@@ -16,7 +16,7 @@ use Rattle.definition.specs.Lists.{isIn, placeOf, concat}
 use Rattle.definition.specs.Components.{membersOf, sizeOf, touched, sourcesOf, gathered, joined, twoF, costFrom, joiningCost, liveDimension, localMask}
 use Rattle.definition.specs.Walk.{Walk, Join, joinOf}
 use Rattle.definition.specs.Connectivity.{Member, NoRepeats, ActiveOrder, supportOf}
-use Rattle.definition.proofs.Counting.{member-head, member-tail}
+use Rattle.definition.proofs.Counting.{member-length, member-head, member-tail}
 use Rattle.definition.proofs.Joins.{gathered-holds}
 use Rattle.definition.proofs.LocalBits.{local-below}
 use Rattle.definition.proofs.Live.{rearranged-length}
@@ -68,10 +68,6 @@ pub split : (xs : List ℕ) → 0 < length xs → (t : ℕ) × (others : List �
 split [] h = absurd (omega arith)
 split (t ∷ others) h = (t, others, refl)
 
-member-some : (c : ℕ) (xs : List ℕ) → Member c xs → 0 < length xs
-member-some c [] m = absurd (omega arith)
-member-some c (x ∷ xs) m = omega arith
-
 -- a join of one source changes nothing
 alone : (cs : List (List ℕ)) (ss : List ℕ) → length ss ≡ 1 → joined cs ss ≡ cs
 unfolding joined
@@ -100,7 +96,7 @@ module _ (w : Walk) (r : ActiveOrder) (tr : Tracked w r) (s : State) (rep : Repr
   agree c m = let l = source-live c m in (rep .size c (l .0), l .1)
 
   pub some : 0 < length (j .sources)
-  some = member-some (j .component) (j .sources) (target-source w r tr x z active)
+  some = member-length (j .component) (j .sources) (target-source w r tr x z active)
 
   -- the sources that the code writes
   pub written : sourcesAt (s .component) (s .size) (s .width) x z ≡ j .sources
@@ -142,7 +138,7 @@ module _ (w : Walk) (r : ActiveOrder) (tr : Tracked w r) (s : State) (rep : Repr
   members-some =
       let t = target-source w r tr x z active in
       let l = source-holds (w .components) (activeOf w r) h x z (j .component) t .1 in
-      member-some (l .0) (j .members) (gathered-holds (w .components) (j .sources) (l .0) (j .component) t (l .2))
+      member-length (l .0) (j .members) (gathered-holds (w .components) (j .sources) (l .0) (j .component) t (l .2))
 
   all-most : length (concat (w .components)) ≤ 62
   all-most = let e = rearranged-length (concat (w .components)) (w .order) (h .held) in omega arith

@@ -1,0 +1,54 @@
+-- Demand 3 of what a call leaves: its contract says that the answer's fields are those of the definition's plan and that each buffer holds that plan's words and
+-- zeros behind them, and the claims that hold of a plan hold of its words followed by zeros.
+use Prim.Native.Nat.{ℕ, _≤_}
+use native.Mathlib.Omega.{arith}
+use mathlib.Core.Path.{_≡_, refl}
+use mathlib.Core.List.{List}
+use lib.ListN.{length}
+use Rattle.records.specs.Record.{instructionsOf}
+use Rattle.records.specs.declared.Head.{Head}
+use Rattle.definition.specs.Plan.{Plan, Result, planned, refusedAt, planOf}
+use Rattle.definition.specs.Connectivity.{Connected}
+use Rattle.definition.proofs.Accepted.{accepted}
+use Rattle.definition.proofs.Connected.{read-head, connected}
+use Rattle.definition.proofs.Padded.{Pads, connected-padded}
+use Rattle.walk.specs.Walking.{Buffers, lengthsOf}
+use Rattle.component_plan.specs.declared.ActiveComponentPlan.{ActiveComponentPlan}
+use Rattle.component_plan.specs.declared.Planned.the-variants as P
+use Rattle.component_plan.specs.Answer.{outcomeOf, outcomeIn, Held, Answers}
+use Rattle.component_plan.specs.Demand.{planIn}
+
+-- an answer that is a plan is the definition's plan: its fields, and its words followed by zeros
+planned-pads : (result : Result) (before after : Buffers) (r : ActiveComponentPlan) → outcomeOf (P.Plan r) ≡ outcomeIn result → Held result before after
+    → (p : Plan) × (result ≡ planned p) × Pads p (planIn r after)
+planned-pads (planned p) before after r e held =
+    let initial : r .«initial_components» ≡ p .initialComponents = cc in
+    let count : r .«component_count» ≡ p .componentCount = cc in
+    let peak : r .«component_peak_live_dimension» ≡ p .peak = cc in
+    let allocated : r .«component_allocated_dimension» ≡ p .allocated = cc in (
+      p,
+      refl,
+      record {
+        initialComponents = initial;
+        componentCount = count;
+        peak = peak;
+        allocated = allocated;
+        steps = (length (before .steps), held .steps);
+        merges = (length (before .merges), held .merges);
+        rotations = (length (before .rotations), held .rotations);
+        promotions = (length (before .promotions), held .promotions);
+        measurements = (length (before .measurements), held .measurements);
+      },
+    )
+planned-pads (refusedAt number index) before after r e held = let z : _≡_ {A = ℕ} 0 1 = cc in absurd (omega arith)
+
+-- Demand 3 of the answer and the buffers that a call leaves
+pub call-connected : (limit : ℕ) (h : Head) (ws : List ℕ) (before after : Buffers) (r : ActiveComponentPlan)
+    → Answers limit h ws before after (P.Plan r) → 8 ≤ h .«max_k» → h .nexpvals ≡ 0
+    → (m : ℕ) → m ≤ length (instructionsOf ws) → Connected (h .«initial_k») (instructionsOf ws) (planIn r after) m
+call-connected limit h ws before after r a wide none m within =
+    let found = planned-pads (planOf limit h ws (lengthsOf before)) before after r (a .answer) (a .held) in
+    let p = found .0 in
+    let plan = accepted limit h ws (lengthsOf before) p (read-head h wide none) (found .1) in
+    connected-padded limit h ws (lengthsOf before) p (planIn r after) plan (found .2) m within
+    (connected limit h ws (lengthsOf before) p (found .1) wide none m within)
