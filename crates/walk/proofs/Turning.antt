@@ -599,11 +599,11 @@ module _ (limit k : ℕ) (ws : List ℕ) (b : Buffers) (ok : Walkable k ws b) (i
       go : (x : Instruction) → widthOf x ≤ 62 → WhereJoined (s .width) (λ x z. GatherFits (s .component) (s .size) (s .width) (t .merges) (length (c .merges)) x z) x
       go (Rotation width x z phase angle sine cosine) h = λ e active. fits width x z h e active
       go (Measurement width x z phase pivot) h = λ e active. fits width x z h e active
-      go Promotion h = omega arith
-      go RecordMeasurement h = omega arith
-      go RecordDetector h = omega arith
-      go Expectation h = omega arith
-      go DormantBranch h = omega arith
+      go Promotion h = tt
+      go RecordMeasurement h = tt
+      go RecordDetector h = tt
+      go Expectation h = tt
+      go DormantBranch h = tt
 
   -- refusals 11 to 13
   pub open-stops : (n : ℕ) (after : Buffers) → n ≡ numberBefore (s .width) now → (n ≡ 0 → ⊥) → WalkEnds (walkFrom limit 0 (start k) (instructionsOf ws)) (W.Stopped n i) after

@@ -58,11 +58,11 @@ sourcesBefore width sources DormantBranch = []
 abbrev pub WhereJoined : ℕ → (ℕ → ℕ → Type 0) → Instruction → Type 0
 WhereJoined width asked (Rotation w x z phase angle sine cosine) = w ≡ width → 0 < width → asked x z
 WhereJoined width asked (Measurement w x z phase pivot) = w ≡ width → 0 < width → asked x z
-WhereJoined width asked Promotion = 0 ≤ width
-WhereJoined width asked RecordMeasurement = 0 ≤ width
-WhereJoined width asked RecordDetector = 0 ≤ width
-WhereJoined width asked Expectation = 0 ≤ width
-WhereJoined width asked DormantBranch = 0 ≤ width
+WhereJoined width asked Promotion = Unit
+WhereJoined width asked RecordMeasurement = Unit
+WhereJoined width asked RecordDetector = Unit
+WhereJoined width asked Expectation = Unit
+WhereJoined width asked DormantBranch = Unit
 
 -- a join of no sources
 abbrev pub noJoining : Joining
