@@ -87,7 +87,9 @@ fill-ones-requires : tie.Need-fill-ones-requires Inv-loop μ-loop
 fill-ones-requires c κs = ones-fit (c .before .before .before .before .before .before .before .before .before .before .before .pre)
 
 loop-holds : tie.Need-loop-holds Inv-loop μ-loop
-loop-holds c = let first = c .before .before .before .before .before .before .before .before .before .before .before .before .before .before in begins (first .args .limit) (first .args .initial-k) (first .args .records .now) _ (c .before .before .fill-ones .last .0) (c .before .before .before .before .before .start .result) (c .before .before .before .before .start2 .result) (first .pre) (c .before .before .before .before .before .start .ensures) (c .before .before .before .before .start2 .ensures) (c .before .before .fill-ones .ensures) (c .before .before .fill-ones .kept .0)
+loop-holds c =
+    let first = c .before .before .before .before .before .before .before .before .before .before .before .before .before .before in
+    begins (first .args .limit) (first .args .initial-k) (first .args .records .now) _ (c .before .before .fill-ones .last .0) (c .before .before .before .before .before .start .result) (c .before .before .before .before .start2 .result) (first .pre) (c .before .before .before .before .before .start .ensures) (c .before .before .before .before .start2 .ensures) (c .before .before .fill-ones .ensures) (c .before .before .fill-ones .kept .0)
 
 add-i : tie.Need-add-i Inv-loop μ-loop
 add-i c = let few = records-few (c .before .loop .inv) in omega (arith, c .loop-test .taken)
@@ -96,7 +98,13 @@ read-requires : tie.Need-read-requires Inv-loop μ-loop
 read-requires c κs = search needs
 
 open-requires : tie.Need-open-requires Inv-loop μ-loop
-open-requires c κs = let read = c .before .before .before .before in let inv = read .before .before .loop .inv in let more = read .before .loop-test .taken in let x = read .read .result in let now = turn-now read in opening inv more x now
+open-requires c κs =
+    let read = c .before .before .before .before in
+    let inv = read .before .before .loop .inv in
+    let more = read .before .loop-test .taken in
+    let x = read .read .result in
+    let now = turn-now read in
+    opening inv more x now
 
 same-length : tie.Need-same-length Inv-loop μ-loop
 same-length c = search needs
@@ -117,13 +125,42 @@ same-length-6 : tie.Need-same-length-6 Inv-loop μ-loop
 same-length-6 c = search needs
 
 returns : tie.Need-returns Inv-loop μ-loop
-returns c = let read = c .before .before .before .before .before .before .before .before in let inv = read .before .before .loop .inv in let more = read .before .loop-test .taken in let x = read .read .result in let now = turn-now read in let opened = c .before .before .before in opening-stops inv more x now (opened .«open» .result .number) _ (opened .«open» .ensures .0) (c .if1 .taken)
+returns c =
+    let read = c .before .before .before .before .before .before .before .before in
+    let inv = read .before .before .loop .inv in
+    let more = read .before .loop-test .taken in
+    let x = read .read .result in
+    let now = turn-now read in
+    let opened = c .before .before .before in
+    opening-stops inv more x now (opened .«open» .result .number) _ (opened .«open» .ensures .0) (c .if1 .taken)
 
 add-end : tie.Need-add-end Inv-loop μ-loop
-add-end c = let read = c .before .before .before .before .before .before .before .before .before .before in let inv = read .before .before .loop .inv in let more = read .before .loop-test .taken in let x = read .read .result in let now = turn-now read in let opened = c .before .before .before .before .before in let fits = placed opened .0 in let kept = opened .«open» .kept .1 .1 .1 .1 .1 .0 in let long = inv .long .merges in let good = c .before .before .before .before .before .before .before .before .before .before .before .before .before .before .before .before .before .before .before .before .before .before .before .before .before .before .before .good .1 .1 .1 .1 .0 .1 in omega (arith, good)
+add-end c =
+    let read = c .before .before .before .before .before .before .before .before .before .before in
+    let inv = read .before .before .loop .inv in
+    let more = read .before .loop-test .taken in
+    let x = read .read .result in
+    let now = turn-now read in
+    let opened = c .before .before .before .before .before in
+    let fits = placed opened .0 in
+    let kept = opened .«open» .kept .1 .1 .1 .1 .1 .0 in
+    let long = inv .long .merges in
+    let good = c .before .before .before .before .before .before .before .before .before .before .before .before .before .before .before .before .before .before .before .before .before .before .before .before .before .before .before .good .1 .1 .1 .1 .0 .1 in
+    omega (arith, good)
 
 mul-join : tie.Need-mul-join Inv-loop μ-loop
-mul-join c = let read = c .before .before .before .before .before .before .before .before .before .before in let inv = read .before .before .loop .inv in let more = read .before .loop-test .taken in let x = read .read .result in let now = turn-now read in let opened = c .before .before .before .before .before in let fits = placed opened .0 in let kept = opened .«open» .kept .1 .1 .1 .1 .1 .0 in let long = inv .long .merges in let good = c .before .before .before .before .before .before .before .before .before .before .before .before .before .before .before .before .before .before .before .before .before .before .before .before .before .before .before .good .1 .1 .1 .1 .0 .1 in omega (arith, good)
+mul-join c =
+    let read = c .before .before .before .before .before .before .before .before .before .before in
+    let inv = read .before .before .loop .inv in
+    let more = read .before .loop-test .taken in
+    let x = read .read .result in
+    let now = turn-now read in
+    let opened = c .before .before .before .before .before in
+    let fits = placed opened .0 in
+    let kept = opened .«open» .kept .1 .1 .1 .1 .1 .0 in
+    let long = inv .long .merges in
+    let good = c .before .before .before .before .before .before .before .before .before .before .before .before .before .before .before .before .before .before .before .before .before .before .before .before .before .before .before .good .1 .1 .1 .1 .0 .1 in
+    omega (arith, good)
 
 sub-join : tie.Need-sub-join Inv-loop μ-loop
 sub-join c = search needs
@@ -132,121 +169,401 @@ part-join-start : tie.Need-part-join-start Inv-loop μ-loop
 part-join-start c = search needs
 
 part-join-end : tie.Need-part-join-end Inv-loop μ-loop
-part-join-end c = let read = c .before .before .before .before .before .before .before .before .before .before .before in let inv = read .before .before .loop .inv in let more = read .before .loop-test .taken in let x = read .read .result in let now = turn-now read in let opened = c .before .before .before .before .before .before in let fits = placed opened .0 in let kept = opened .«open» .kept .1 .1 .1 .1 .1 .0 in let long = inv .long .merges in let good = c .before .before .before .before .before .before .before .before .before .before .before .before .before .before .before .before .before .before .before .before .before .before .before .before .before .before .before .before .good .1 .1 .1 .1 .0 .1 in fits
+part-join-end c =
+    let read = c .before .before .before .before .before .before .before .before .before .before .before in
+    let inv = read .before .before .loop .inv in
+    let more = read .before .loop-test .taken in
+    let x = read .read .result in
+    let now = turn-now read in
+    let opened = c .before .before .before .before .before .before in
+    let fits = placed opened .0 in
+    let kept = opened .«open» .kept .1 .1 .1 .1 .1 .0 in
+    let long = inv .long .merges in
+    let good = c .before .before .before .before .before .before .before .before .before .before .before .before .before .before .before .before .before .before .before .before .before .before .before .before .before .before .before .before .good .1 .1 .1 .1 .0 .1 in
+    fits
 
 join-requires : tie.Need-join-requires Inv-loop μ-loop
-join-requires c κs = let read = c .before .before .before .before .before .before .before .before .before .before .before .before in let inv = read .before .before .loop .inv in let more = read .before .loop-test .taken in let x = read .read .result in let now = turn-now read in let opened = c .before .before .before .before .before .before .before in joins inv more x now _ (placed opened .1) (let h = c .before .before .if2 .taken in let e = ap length (placed opened .1) in let f = counted opened in omega arith)
+join-requires c κs =
+    let read = c .before .before .before .before .before .before .before .before .before .before .before .before in
+    let inv = read .before .before .loop .inv in
+    let more = read .before .loop-test .taken in
+    let x = read .read .result in
+    let now = turn-now read in
+    let opened = c .before .before .before .before .before .before .before in
+    joins inv more x now _ (placed opened .1) (let h = c .before .before .if2 .taken in let e = ap length (placed opened .1) in let f = counted opened in omega arith)
 
 enum-known-instruction : tie.Need-enum-known-instruction Inv-loop μ-loop
 enum-known-instruction c = search needs
 
 ignored-requires : tie.Need-ignored-requires Inv-loop μ-loop
-ignored-requires c κs = let read = c .before .before .before .before .before .before .before .before .before .before .before .before .before .before in let inv = read .before .before .loop .inv in let more = read .before .loop-test .taken in let x = read .read .result in let now = turn-now read in quantum-room inv more x now
+ignored-requires c κs =
+    let read = c .before .before .before .before .before .before .before .before .before .before .before .before .before .before in
+    let inv = read .before .before .loop .inv in
+    let more = read .before .loop-test .taken in
+    let x = read .read .result in
+    let now = turn-now read in
+    quantum-room inv more x now
 
 put-step-requires : tie.Need-put-step-requires Inv-loop μ-loop
-put-step-requires c κs = let read = c .before .before .before .before .before .before .before .before .before .before .before .before .before .before .before .before in let inv = read .before .before .loop .inv in let more = read .before .loop-test .taken in let x = read .read .result in let now = turn-now read in step-room inv more x now
+put-step-requires c κs =
+    let read = c .before .before .before .before .before .before .before .before .before .before .before .before .before .before .before .before in
+    let inv = read .before .before .loop .inv in
+    let more = read .before .loop-test .taken in
+    let x = read .read .result in
+    let now = turn-now read in
+    step-room inv more x now
 
 loop-less : tie.Need-loop-less Inv-loop μ-loop
-loop-less c = let more = c .before .before .before .before .before .before .before .before .before .before .before .before .before .before .before .before .before .before .before .before .loop-test .taken in omega arith
+loop-less c =
+    let more = c .before .before .before .before .before .before .before .before .before .before .before .before .before .before .before .before .before .before .before .before .loop-test .taken in
+    omega arith
 
 loop-again : tie.Need-loop-again Inv-loop μ-loop
-loop-again c = let read = c .before .before .before .before .before .before .before .before .before .before .before .before .before .before .before .before .before .before .before in let inv = read .before .before .loop .inv in let more = read .before .loop-test .taken in let x = read .read .result in let now = turn-now read in let j2 = c .before .before .before .before .before .before .before .before .before in let opened = c .before .before .before .before .before .before .before .before .before .before .before .before .before .before in let through = let-through (c .before .before .before .before .before .before .before .before .before .before .before) in let told = c .before .before .before .before .before .before .before .instruction .given .1 in let none-there = sym (counted opened) ∙ c .before .before .before .before .before .if3 .taken in let done = c .before .before in ignored-goes inv more x now _ _ _ _ _ _ _ told through (j2 .if2 .state) (c .before .before .before .before .ignored .result) _ (c .before .before .before .before .ignored .ensures) none-there (met j2) (done .put-step .ensures) (opened .«open» .ensures .2) refl refl refl refl (record { steps = done .put-step .kept .0 ∙ inv .long .steps; merges = opened .«open» .kept .1 .1 .1 .1 .1 .0 ∙ inv .long .merges; sizes = inv .long .sizes; rotations = inv .long .rotations; promotions = inv .long .promotions; measurements = inv .long .measurements; groups = inv .long .groups })
+loop-again c =
+    let read = c .before .before .before .before .before .before .before .before .before .before .before .before .before .before .before .before .before .before .before in
+    let inv = read .before .before .loop .inv in
+    let more = read .before .loop-test .taken in
+    let x = read .read .result in
+    let now = turn-now read in
+    let j2 = c .before .before .before .before .before .before .before .before .before in
+    let opened = c .before .before .before .before .before .before .before .before .before .before .before .before .before .before in
+    let through = let-through (c .before .before .before .before .before .before .before .before .before .before .before) in
+    let told = c .before .before .before .before .before .before .before .instruction .given .1 in
+    let none-there = sym (counted opened) ∙ c .before .before .before .before .before .if3 .taken in
+    let done = c .before .before in
+    ignored-goes inv more x now _ _ _ _ _ _ _ told through (j2 .if2 .state) (c .before .before .before .before .ignored .result) _ (c .before .before .before .before .ignored .ensures) none-there (met j2) (done .put-step .ensures) (opened .«open» .ensures .2) refl refl refl refl (record { steps = done .put-step .kept .0 ∙ inv .long .steps; merges = opened .«open» .kept .1 .1 .1 .1 .1 .0 ∙ inv .long .merges; sizes = inv .long .sizes; rotations = inv .long .rotations; promotions = inv .long .promotions; measurements = inv .long .measurements; groups = inv .long .groups })
 
 rotate-requires : tie.Need-rotate-requires Inv-loop μ-loop
-rotate-requires c κs = let read = c .before .before .before .before .before .before .before .before .before .before .before .before .before .before .before .before .before .before .before in let inv = read .before .before .loop .inv in let more = read .before .loop-test .taken in let x = read .read .result in let now = turn-now read in let j2 = c .before .before .before .before .before .before .before .before .before in let opened = c .before .before .before .before .before .before .before .before .before .before .before .before .before .before in let through = let-through (c .before .before .before .before .before .before .before .before .before .before .before) in let told = c .before .before .before .before .before .before .before .instruction .given .1 in let not-zero = c .before .before .before .before .before .if3 .left in (rotate-asks inv more x now _ _ _ _ _ _ _ told through (λ e. not-zero (counted opened ∙ e)) (j2 .if2 .state) (met j2) (opened .«open» .result .join) (opened .«open» .ensures .1), rotate-room inv more x now _ _ _ _ _ _ _ told through (λ e. not-zero (counted opened ∙ e)) (j2 .if2 .state) (met j2) (opened .«open» .result .join) (opened .«open» .ensures .1))
+rotate-requires c κs =
+    let read = c .before .before .before .before .before .before .before .before .before .before .before .before .before .before .before .before .before .before .before in
+    let inv = read .before .before .loop .inv in
+    let more = read .before .loop-test .taken in
+    let x = read .read .result in
+    let now = turn-now read in
+    let j2 = c .before .before .before .before .before .before .before .before .before in
+    let opened = c .before .before .before .before .before .before .before .before .before .before .before .before .before .before in
+    let through = let-through (c .before .before .before .before .before .before .before .before .before .before .before) in
+    let told = c .before .before .before .before .before .before .before .instruction .given .1 in
+    let not-zero = c .before .before .before .before .before .if3 .left in
+    (rotate-asks inv more x now _ _ _ _ _ _ _ told through (λ e. not-zero (counted opened ∙ e)) (j2 .if2 .state) (met j2) (opened .«open» .result .join) (opened .«open» .ensures .1), rotate-room inv more x now _ _ _ _ _ _ _ told through (λ e. not-zero (counted opened ∙ e)) (j2 .if2 .state) (met j2) (opened .«open» .result .join) (opened .«open» .ensures .1))
 
 same-length-7 : tie.Need-same-length-7 Inv-loop μ-loop
-same-length-7 c = let read = c .before .before .before .before .before .before .before .before .before .before .before .before .before .before .before .before .before .before .before .before .before .before .before .before .before .before .before in let inv = read .before .before .loop .inv in let more = read .before .loop-test .taken in let x = read .read .result in let now = turn-now read in let opened = c .before .before .before .before .before .before .before .before .before .before .before .before .before .before .before .before .before .before .before .before .before .before in let done = c .before .before .before .before .before .before .before in done .rotate .kept .1 .1 .1 .1 .1 .1 .1 .1 .1 .1 .1 .1 .0 ∙ inv .long .steps
+same-length-7 c =
+    let read = c .before .before .before .before .before .before .before .before .before .before .before .before .before .before .before .before .before .before .before .before .before .before .before .before .before .before .before in
+    let inv = read .before .before .loop .inv in
+    let more = read .before .loop-test .taken in
+    let x = read .read .result in
+    let now = turn-now read in
+    let opened = c .before .before .before .before .before .before .before .before .before .before .before .before .before .before .before .before .before .before .before .before .before .before in
+    let done = c .before .before .before .before .before .before .before in
+    done .rotate .kept .1 .1 .1 .1 .1 .1 .1 .1 .1 .1 .1 .1 .0 ∙ inv .long .steps
 
 same-length-8 : tie.Need-same-length-8 Inv-loop μ-loop
-same-length-8 c = let read = c .before .before .before .before .before .before .before .before .before .before .before .before .before .before .before .before .before .before .before .before .before .before .before .before .before .before .before in let inv = read .before .before .loop .inv in let more = read .before .loop-test .taken in let x = read .read .result in let now = turn-now read in let opened = c .before .before .before .before .before .before .before .before .before .before .before .before .before .before .before .before .before .before .before .before .before .before in let done = c .before .before .before .before .before .before .before in opened .«open» .kept .1 .1 .1 .1 .1 .0 ∙ inv .long .merges
+same-length-8 c =
+    let read = c .before .before .before .before .before .before .before .before .before .before .before .before .before .before .before .before .before .before .before .before .before .before .before .before .before .before .before in
+    let inv = read .before .before .loop .inv in
+    let more = read .before .loop-test .taken in
+    let x = read .read .result in
+    let now = turn-now read in
+    let opened = c .before .before .before .before .before .before .before .before .before .before .before .before .before .before .before .before .before .before .before .before .before .before in
+    let done = c .before .before .before .before .before .before .before in
+    opened .«open» .kept .1 .1 .1 .1 .1 .0 ∙ inv .long .merges
 
 same-length-9 : tie.Need-same-length-9 Inv-loop μ-loop
-same-length-9 c = let read = c .before .before .before .before .before .before .before .before .before .before .before .before .before .before .before .before .before .before .before .before .before .before .before .before .before .before .before in let inv = read .before .before .loop .inv in let more = read .before .loop-test .taken in let x = read .read .result in let now = turn-now read in let opened = c .before .before .before .before .before .before .before .before .before .before .before .before .before .before .before .before .before .before .before .before .before .before in let done = c .before .before .before .before .before .before .before in done .rotate .kept .1 .1 .1 .1 .1 .1 .1 .1 .1 .1 .1 .1 .1 .0 ∙ inv .long .sizes ∙ c .before .before .before .before .before .before .before .before .before .before .before .before .before .before .before .before .before .before .before .before .before .before .before .before .before .before .before .before .before .before .before .before .fill-ones .kept .0
+same-length-9 c =
+    let read = c .before .before .before .before .before .before .before .before .before .before .before .before .before .before .before .before .before .before .before .before .before .before .before .before .before .before .before in
+    let inv = read .before .before .loop .inv in
+    let more = read .before .loop-test .taken in
+    let x = read .read .result in
+    let now = turn-now read in
+    let opened = c .before .before .before .before .before .before .before .before .before .before .before .before .before .before .before .before .before .before .before .before .before .before in
+    let done = c .before .before .before .before .before .before .before in
+    done .rotate .kept .1 .1 .1 .1 .1 .1 .1 .1 .1 .1 .1 .1 .1 .0 ∙ inv .long .sizes ∙ c .before .before .before .before .before .before .before .before .before .before .before .before .before .before .before .before .before .before .before .before .before .before .before .before .before .before .before .before .before .before .before .before .fill-ones .kept .0
 
 same-length-10 : tie.Need-same-length-10 Inv-loop μ-loop
-same-length-10 c = let read = c .before .before .before .before .before .before .before .before .before .before .before .before .before .before .before .before .before .before .before .before .before .before .before .before .before .before .before in let inv = read .before .before .loop .inv in let more = read .before .loop-test .taken in let x = read .read .result in let now = turn-now read in let opened = c .before .before .before .before .before .before .before .before .before .before .before .before .before .before .before .before .before .before .before .before .before .before in let done = c .before .before .before .before .before .before .before in done .rotate .kept .1 .1 .1 .1 .1 .1 .1 .1 .1 .1 .1 .1 .1 .1 .0 ∙ inv .long .rotations
+same-length-10 c =
+    let read = c .before .before .before .before .before .before .before .before .before .before .before .before .before .before .before .before .before .before .before .before .before .before .before .before .before .before .before in
+    let inv = read .before .before .loop .inv in
+    let more = read .before .loop-test .taken in
+    let x = read .read .result in
+    let now = turn-now read in
+    let opened = c .before .before .before .before .before .before .before .before .before .before .before .before .before .before .before .before .before .before .before .before .before .before in
+    let done = c .before .before .before .before .before .before .before in
+    done .rotate .kept .1 .1 .1 .1 .1 .1 .1 .1 .1 .1 .1 .1 .1 .1 .0 ∙ inv .long .rotations
 
 same-length-11 : tie.Need-same-length-11 Inv-loop μ-loop
-same-length-11 c = let read = c .before .before .before .before .before .before .before .before .before .before .before .before .before .before .before .before .before .before .before .before .before .before .before .before .before .before .before in let inv = read .before .before .loop .inv in let more = read .before .loop-test .taken in let x = read .read .result in let now = turn-now read in let opened = c .before .before .before .before .before .before .before .before .before .before .before .before .before .before .before .before .before .before .before .before .before .before in let done = c .before .before .before .before .before .before .before in inv .long .promotions
+same-length-11 c =
+    let read = c .before .before .before .before .before .before .before .before .before .before .before .before .before .before .before .before .before .before .before .before .before .before .before .before .before .before .before in
+    let inv = read .before .before .loop .inv in
+    let more = read .before .loop-test .taken in
+    let x = read .read .result in
+    let now = turn-now read in
+    let opened = c .before .before .before .before .before .before .before .before .before .before .before .before .before .before .before .before .before .before .before .before .before .before in
+    let done = c .before .before .before .before .before .before .before in
+    inv .long .promotions
 
 same-length-12 : tie.Need-same-length-12 Inv-loop μ-loop
-same-length-12 c = let read = c .before .before .before .before .before .before .before .before .before .before .before .before .before .before .before .before .before .before .before .before .before .before .before .before .before .before .before in let inv = read .before .before .loop .inv in let more = read .before .loop-test .taken in let x = read .read .result in let now = turn-now read in let opened = c .before .before .before .before .before .before .before .before .before .before .before .before .before .before .before .before .before .before .before .before .before .before in let done = c .before .before .before .before .before .before .before in inv .long .measurements
+same-length-12 c =
+    let read = c .before .before .before .before .before .before .before .before .before .before .before .before .before .before .before .before .before .before .before .before .before .before .before .before .before .before .before in
+    let inv = read .before .before .loop .inv in
+    let more = read .before .loop-test .taken in
+    let x = read .read .result in
+    let now = turn-now read in
+    let opened = c .before .before .before .before .before .before .before .before .before .before .before .before .before .before .before .before .before .before .before .before .before .before in
+    let done = c .before .before .before .before .before .before .before in
+    inv .long .measurements
 
 returns-2 : tie.Need-returns-2 Inv-loop μ-loop
-returns-2 c = let read = c .before .before .before .before .before .before .before .before .before .before .before .before .before .before .before .before .before .before .before .before .before .before .before .before .before .before .before in let inv = read .before .before .loop .inv in let more = read .before .loop-test .taken in let x = read .read .result in let now = turn-now read in let j2 = c .before .before .before .before .before .before .before .before .before .before .before .before .before .before .before .before .before in let opened = c .before .before .before .before .before .before .before .before .before .before .before .before .before .before .before .before .before .before .before .before .before .before in let through = let-through (c .before .before .before .before .before .before .before .before .before .before .before .before .before .before .before .before .before .before .before) in let told = c .before .before .before .before .before .before .before .before .before .before .before .before .before .before .before .instruction .given .1 in let not-zero = c .before .before .before .before .before .before .before .before .before .before .before .before .before .if3 .left in let done = c .before .before .before .before .before .before .before in rotate-stops inv more x now _ _ _ _ _ _ _ told through (λ e. not-zero (counted opened ∙ e)) (j2 .if2 .state) (met j2) (opened .«open» .result .join) (opened .«open» .ensures .1) (done .rotate .result .number) _ _ (done .rotate .ensures) (c .if4 .taken)
+returns-2 c =
+    let read = c .before .before .before .before .before .before .before .before .before .before .before .before .before .before .before .before .before .before .before .before .before .before .before .before .before .before .before in
+    let inv = read .before .before .loop .inv in
+    let more = read .before .loop-test .taken in
+    let x = read .read .result in
+    let now = turn-now read in
+    let j2 = c .before .before .before .before .before .before .before .before .before .before .before .before .before .before .before .before .before in
+    let opened = c .before .before .before .before .before .before .before .before .before .before .before .before .before .before .before .before .before .before .before .before .before .before in
+    let through = let-through (c .before .before .before .before .before .before .before .before .before .before .before .before .before .before .before .before .before .before .before) in
+    let told = c .before .before .before .before .before .before .before .before .before .before .before .before .before .before .before .instruction .given .1 in
+    let not-zero = c .before .before .before .before .before .before .before .before .before .before .before .before .before .if3 .left in
+    let done = c .before .before .before .before .before .before .before in
+    rotate-stops inv more x now _ _ _ _ _ _ _ told through (λ e. not-zero (counted opened ∙ e)) (j2 .if2 .state) (met j2) (opened .«open» .result .join) (opened .«open» .ensures .1) (done .rotate .result .number) _ _ (done .rotate .ensures) (c .if4 .taken)
 
 loop-less-2 : tie.Need-loop-less-2 Inv-loop μ-loop
-loop-less-2 c = let more = c .before .before .before .before .before .before .before .before .before .before .before .before .before .before .before .before .before .before .before .before .before .before .before .before .before .before .before .before .before .loop-test .taken in omega arith
+loop-less-2 c =
+    let more = c .before .before .before .before .before .before .before .before .before .before .before .before .before .before .before .before .before .before .before .before .before .before .before .before .before .before .before .before .before .loop-test .taken in
+    omega arith
 
 loop-again-2 : tie.Need-loop-again-2 Inv-loop μ-loop
-loop-again-2 c = let read = c .before .before .before .before .before .before .before .before .before .before .before .before .before .before .before .before .before .before .before .before .before .before .before .before .before .before .before .before in let inv = read .before .before .loop .inv in let more = read .before .loop-test .taken in let x = read .read .result in let now = turn-now read in let j2 = c .before .before .before .before .before .before .before .before .before .before .before .before .before .before .before .before .before .before in let opened = c .before .before .before .before .before .before .before .before .before .before .before .before .before .before .before .before .before .before .before .before .before .before .before in let through = let-through (c .before .before .before .before .before .before .before .before .before .before .before .before .before .before .before .before .before .before .before .before) in let told = c .before .before .before .before .before .before .before .before .before .before .before .before .before .before .before .before .instruction .given .1 in let not-zero = c .before .before .before .before .before .before .before .before .before .before .before .before .before .before .if3 .left in let done = c .before .before .before .before .before .before .before .before in rotate-goes inv more x now _ _ _ _ _ _ _ told through (λ e. not-zero (counted opened ∙ e)) (j2 .if2 .state) (met j2) (opened .«open» .result .join) (opened .«open» .ensures .1) (done .rotate .result .number) (done .rotate .result .tally) _ (done .rotate .ensures) (c .before .if4 .left) (opened .«open» .ensures .2) refl refl (record { steps = done .rotate .kept .1 .1 .1 .1 .1 .1 .1 .1 .1 .1 .1 .1 .0 ∙ inv .long .steps; merges = opened .«open» .kept .1 .1 .1 .1 .1 .0 ∙ inv .long .merges; sizes = done .rotate .kept .1 .1 .1 .1 .1 .1 .1 .1 .1 .1 .1 .1 .1 .0 ∙ inv .long .sizes; rotations = done .rotate .kept .1 .1 .1 .1 .1 .1 .1 .1 .1 .1 .1 .1 .1 .1 .0 ∙ inv .long .rotations; promotions = inv .long .promotions; measurements = inv .long .measurements; groups = inv .long .groups })
+loop-again-2 c =
+    let read = c .before .before .before .before .before .before .before .before .before .before .before .before .before .before .before .before .before .before .before .before .before .before .before .before .before .before .before .before in
+    let inv = read .before .before .loop .inv in
+    let more = read .before .loop-test .taken in
+    let x = read .read .result in
+    let now = turn-now read in
+    let j2 = c .before .before .before .before .before .before .before .before .before .before .before .before .before .before .before .before .before .before in
+    let opened = c .before .before .before .before .before .before .before .before .before .before .before .before .before .before .before .before .before .before .before .before .before .before .before in
+    let through = let-through (c .before .before .before .before .before .before .before .before .before .before .before .before .before .before .before .before .before .before .before .before) in
+    let told = c .before .before .before .before .before .before .before .before .before .before .before .before .before .before .before .before .instruction .given .1 in
+    let not-zero = c .before .before .before .before .before .before .before .before .before .before .before .before .before .before .if3 .left in
+    let done = c .before .before .before .before .before .before .before .before in
+    rotate-goes inv more x now _ _ _ _ _ _ _ told through (λ e. not-zero (counted opened ∙ e)) (j2 .if2 .state) (met j2) (opened .«open» .result .join) (opened .«open» .ensures .1) (done .rotate .result .number) (done .rotate .result .tally) _ (done .rotate .ensures) (c .before .if4 .left) (opened .«open» .ensures .2) refl refl (record { steps = done .rotate .kept .1 .1 .1 .1 .1 .1 .1 .1 .1 .1 .1 .1 .0 ∙ inv .long .steps; merges = opened .«open» .kept .1 .1 .1 .1 .1 .0 ∙ inv .long .merges; sizes = done .rotate .kept .1 .1 .1 .1 .1 .1 .1 .1 .1 .1 .1 .1 .1 .0 ∙ inv .long .sizes; rotations = done .rotate .kept .1 .1 .1 .1 .1 .1 .1 .1 .1 .1 .1 .1 .1 .1 .0 ∙ inv .long .rotations; promotions = inv .long .promotions; measurements = inv .long .measurements; groups = inv .long .groups })
 
 enum-told : tie.Need-enum-told Inv-loop μ-loop
 enum-told c = search needs
 
 promote-requires : tie.Need-promote-requires Inv-loop μ-loop
-promote-requires c κs = let read = c .before .before .before .before .before .before .before .before .before .before .before .before .before .before .before in let inv = read .before .before .loop .inv in let more = read .before .loop-test .taken in let x = read .read .result in let now = turn-now read in let j2 = c .before .before .before .before .before in let opened = c .before .before .before .before .before .before .before .before .before .before in let through = let-through (c .before .before .before .before .before .before .before) in let told = c .before .before .before .enum-told .given .1 in promote-asks inv more x now told (j2 .if2 .state) (met j2)
+promote-requires c κs =
+    let read = c .before .before .before .before .before .before .before .before .before .before .before .before .before .before .before in
+    let inv = read .before .before .loop .inv in
+    let more = read .before .loop-test .taken in
+    let x = read .read .result in
+    let now = turn-now read in
+    let j2 = c .before .before .before .before .before in
+    let opened = c .before .before .before .before .before .before .before .before .before .before in
+    let through = let-through (c .before .before .before .before .before .before .before) in
+    let told = c .before .before .before .enum-told .given .1 in
+    promote-asks inv more x now told (j2 .if2 .state) (met j2)
 
 promote-requires-2 : tie.Need-promote-requires-2 Inv-loop μ-loop
-promote-requires-2 c κs = let read = c .before .before .before .before .before .before .before .before .before .before .before .before .before .before .before .before .before .before .before .before .before .before in let inv = read .before .before .loop .inv in let more = read .before .loop-test .taken in let x = read .read .result in let now = turn-now read in let j2 = c .before .before .before .before .before .before .before .before .before .before .before .before in let opened = c .before .before .before .before .before .before .before .before .before .before .before .before .before .before .before .before .before in let through = let-through (c .before .before .before .before .before .before .before .before .before .before .before .before .before .before) in let told = c .before .before .before .before .before .before .before .before .before .before .enum-told .given .1 in promoted-asks inv more x now told (j2 .if2 .state) (met j2)
+promote-requires-2 c κs =
+    let read = c .before .before .before .before .before .before .before .before .before .before .before .before .before .before .before .before .before .before .before .before .before .before in
+    let inv = read .before .before .loop .inv in
+    let more = read .before .loop-test .taken in
+    let x = read .read .result in
+    let now = turn-now read in
+    let j2 = c .before .before .before .before .before .before .before .before .before .before .before .before in
+    let opened = c .before .before .before .before .before .before .before .before .before .before .before .before .before .before .before .before .before in
+    let through = let-through (c .before .before .before .before .before .before .before .before .before .before .before .before .before .before) in
+    let told = c .before .before .before .before .before .before .before .before .before .before .enum-told .given .1 in
+    promoted-asks inv more x now told (j2 .if2 .state) (met j2)
 
 loop-less-3 : tie.Need-loop-less-3 Inv-loop μ-loop
-loop-less-3 c = let more = c .before .before .before .before .before .before .before .before .before .before .before .before .before .before .before .before .before .before .before .before .before .before .before .before .loop-test .taken in omega arith
+loop-less-3 c =
+    let more = c .before .before .before .before .before .before .before .before .before .before .before .before .before .before .before .before .before .before .before .before .before .before .before .before .loop-test .taken in
+    omega arith
 
 loop-again-3 : tie.Need-loop-again-3 Inv-loop μ-loop
-loop-again-3 c = let read = c .before .before .before .before .before .before .before .before .before .before .before .before .before .before .before .before .before .before .before .before .before .before .before in let inv = read .before .before .loop .inv in let more = read .before .loop-test .taken in let x = read .read .result in let now = turn-now read in let j2 = c .before .before .before .before .before .before .before .before .before .before .before .before .before in let opened = c .before .before .before .before .before .before .before .before .before .before .before .before .before .before .before .before .before .before in let through = let-through (c .before .before .before .before .before .before .before .before .before .before .before .before .before .before .before) in let told = c .before .before .before .before .before .before .before .before .before .before .before .enum-told .given .1 in let done = c .before .before .before .before .before .before .before in promote-goes inv more x now told (j2 .if2 .state) (met j2) (done .promote .result) _ (c .promote2 .result) (done .promote .ensures) (c .promote2 .ensures) (opened .«open» .ensures .2) refl refl (record { steps = done .promote .kept .1 .1 .1 .1 .0 ∙ inv .long .steps; merges = opened .«open» .kept .1 .1 .1 .1 .1 .0 ∙ inv .long .merges; sizes = done .promote .kept .1 .1 .1 .1 .1 .0 ∙ inv .long .sizes; rotations = inv .long .rotations; promotions = done .promote .kept .1 .1 .1 .1 .1 .1 .0 ∙ inv .long .promotions; measurements = inv .long .measurements; groups = inv .long .groups })
+loop-again-3 c =
+    let read = c .before .before .before .before .before .before .before .before .before .before .before .before .before .before .before .before .before .before .before .before .before .before .before in
+    let inv = read .before .before .loop .inv in
+    let more = read .before .loop-test .taken in
+    let x = read .read .result in
+    let now = turn-now read in
+    let j2 = c .before .before .before .before .before .before .before .before .before .before .before .before .before in
+    let opened = c .before .before .before .before .before .before .before .before .before .before .before .before .before .before .before .before .before .before in
+    let through = let-through (c .before .before .before .before .before .before .before .before .before .before .before .before .before .before .before) in
+    let told = c .before .before .before .before .before .before .before .before .before .before .before .enum-told .given .1 in
+    let done = c .before .before .before .before .before .before .before in
+    promote-goes inv more x now told (j2 .if2 .state) (met j2) (done .promote .result) _ (c .promote2 .result) (done .promote .ensures) (c .promote2 .ensures) (opened .«open» .ensures .2) refl refl (record { steps = done .promote .kept .1 .1 .1 .1 .0 ∙ inv .long .steps; merges = opened .«open» .kept .1 .1 .1 .1 .1 .0 ∙ inv .long .merges; sizes = done .promote .kept .1 .1 .1 .1 .1 .0 ∙ inv .long .sizes; rotations = inv .long .rotations; promotions = done .promote .kept .1 .1 .1 .1 .1 .1 .0 ∙ inv .long .promotions; measurements = inv .long .measurements; groups = inv .long .groups })
 
 enum-known-instruction-2 : tie.Need-enum-known-instruction-2 Inv-loop μ-loop
 enum-known-instruction-2 c = search needs
 
 measure-requires : tie.Need-measure-requires Inv-loop μ-loop
-measure-requires c κs = let read = c .before .before .before .before .before .before .before .before .before .before .before .before .before .before .before .before .before .before .before in let inv = read .before .before .loop .inv in let more = read .before .loop-test .taken in let x = read .read .result in let now = turn-now read in let j2 = c .before .before .before .before .before .before .before .before .before in let opened = c .before .before .before .before .before .before .before .before .before .before .before .before .before .before in let through = let-through (c .before .before .before .before .before .before .before .before .before .before .before) in let told = c .before .before .before .before .before .before .before .instruction2 .given .1 in (measure-asks inv more x now _ _ _ _ _ told through (j2 .if2 .state) (met j2) (opened .«open» .result .join) (opened .«open» .ensures .1), measure-room inv more x now _ _ _ _ _ told through (j2 .if2 .state) (met j2) (opened .«open» .result .join) (opened .«open» .ensures .1))
+measure-requires c κs =
+    let read = c .before .before .before .before .before .before .before .before .before .before .before .before .before .before .before .before .before .before .before in
+    let inv = read .before .before .loop .inv in
+    let more = read .before .loop-test .taken in
+    let x = read .read .result in
+    let now = turn-now read in
+    let j2 = c .before .before .before .before .before .before .before .before .before in
+    let opened = c .before .before .before .before .before .before .before .before .before .before .before .before .before .before in
+    let through = let-through (c .before .before .before .before .before .before .before .before .before .before .before) in
+    let told = c .before .before .before .before .before .before .before .instruction2 .given .1 in
+    (measure-asks inv more x now _ _ _ _ _ told through (j2 .if2 .state) (met j2) (opened .«open» .result .join) (opened .«open» .ensures .1), measure-room inv more x now _ _ _ _ _ told through (j2 .if2 .state) (met j2) (opened .«open» .result .join) (opened .«open» .ensures .1))
 
 same-length-13 : tie.Need-same-length-13 Inv-loop μ-loop
-same-length-13 c = let read = c .before .before .before .before .before .before .before .before .before .before .before .before .before .before .before .before .before .before .before .before .before .before .before .before .before .before .before in let inv = read .before .before .loop .inv in let more = read .before .loop-test .taken in let x = read .read .result in let now = turn-now read in let opened = c .before .before .before .before .before .before .before .before .before .before .before .before .before .before .before .before .before .before .before .before .before .before in let done = c .before .before .before .before .before .before .before in done .measure .kept .1 .1 .1 .1 .1 .1 .1 .1 .1 .1 .1 .0 ∙ inv .long .steps
+same-length-13 c =
+    let read = c .before .before .before .before .before .before .before .before .before .before .before .before .before .before .before .before .before .before .before .before .before .before .before .before .before .before .before in
+    let inv = read .before .before .loop .inv in
+    let more = read .before .loop-test .taken in
+    let x = read .read .result in
+    let now = turn-now read in
+    let opened = c .before .before .before .before .before .before .before .before .before .before .before .before .before .before .before .before .before .before .before .before .before .before in
+    let done = c .before .before .before .before .before .before .before in
+    done .measure .kept .1 .1 .1 .1 .1 .1 .1 .1 .1 .1 .1 .0 ∙ inv .long .steps
 
 same-length-14 : tie.Need-same-length-14 Inv-loop μ-loop
-same-length-14 c = let read = c .before .before .before .before .before .before .before .before .before .before .before .before .before .before .before .before .before .before .before .before .before .before .before .before .before .before .before in let inv = read .before .before .loop .inv in let more = read .before .loop-test .taken in let x = read .read .result in let now = turn-now read in let opened = c .before .before .before .before .before .before .before .before .before .before .before .before .before .before .before .before .before .before .before .before .before .before in let done = c .before .before .before .before .before .before .before in opened .«open» .kept .1 .1 .1 .1 .1 .0 ∙ inv .long .merges
+same-length-14 c =
+    let read = c .before .before .before .before .before .before .before .before .before .before .before .before .before .before .before .before .before .before .before .before .before .before .before .before .before .before .before in
+    let inv = read .before .before .loop .inv in
+    let more = read .before .loop-test .taken in
+    let x = read .read .result in
+    let now = turn-now read in
+    let opened = c .before .before .before .before .before .before .before .before .before .before .before .before .before .before .before .before .before .before .before .before .before .before in
+    let done = c .before .before .before .before .before .before .before in
+    opened .«open» .kept .1 .1 .1 .1 .1 .0 ∙ inv .long .merges
 
 same-length-15 : tie.Need-same-length-15 Inv-loop μ-loop
-same-length-15 c = let read = c .before .before .before .before .before .before .before .before .before .before .before .before .before .before .before .before .before .before .before .before .before .before .before .before .before .before .before in let inv = read .before .before .loop .inv in let more = read .before .loop-test .taken in let x = read .read .result in let now = turn-now read in let opened = c .before .before .before .before .before .before .before .before .before .before .before .before .before .before .before .before .before .before .before .before .before .before in let done = c .before .before .before .before .before .before .before in done .measure .kept .1 .1 .1 .1 .1 .1 .1 .1 .1 .1 .1 .1 .0 ∙ inv .long .sizes ∙ c .before .before .before .before .before .before .before .before .before .before .before .before .before .before .before .before .before .before .before .before .before .before .before .before .before .before .before .before .before .before .before .before .fill-ones .kept .0
+same-length-15 c =
+    let read = c .before .before .before .before .before .before .before .before .before .before .before .before .before .before .before .before .before .before .before .before .before .before .before .before .before .before .before in
+    let inv = read .before .before .loop .inv in
+    let more = read .before .loop-test .taken in
+    let x = read .read .result in
+    let now = turn-now read in
+    let opened = c .before .before .before .before .before .before .before .before .before .before .before .before .before .before .before .before .before .before .before .before .before .before in
+    let done = c .before .before .before .before .before .before .before in
+    done .measure .kept .1 .1 .1 .1 .1 .1 .1 .1 .1 .1 .1 .1 .0 ∙ inv .long .sizes ∙ c .before .before .before .before .before .before .before .before .before .before .before .before .before .before .before .before .before .before .before .before .before .before .before .before .before .before .before .before .before .before .before .before .fill-ones .kept .0
 
 same-length-16 : tie.Need-same-length-16 Inv-loop μ-loop
-same-length-16 c = let read = c .before .before .before .before .before .before .before .before .before .before .before .before .before .before .before .before .before .before .before .before .before .before .before .before .before .before .before in let inv = read .before .before .loop .inv in let more = read .before .loop-test .taken in let x = read .read .result in let now = turn-now read in let opened = c .before .before .before .before .before .before .before .before .before .before .before .before .before .before .before .before .before .before .before .before .before .before in let done = c .before .before .before .before .before .before .before in inv .long .rotations
+same-length-16 c =
+    let read = c .before .before .before .before .before .before .before .before .before .before .before .before .before .before .before .before .before .before .before .before .before .before .before .before .before .before .before in
+    let inv = read .before .before .loop .inv in
+    let more = read .before .loop-test .taken in
+    let x = read .read .result in
+    let now = turn-now read in
+    let opened = c .before .before .before .before .before .before .before .before .before .before .before .before .before .before .before .before .before .before .before .before .before .before in
+    let done = c .before .before .before .before .before .before .before in
+    inv .long .rotations
 
 same-length-17 : tie.Need-same-length-17 Inv-loop μ-loop
-same-length-17 c = let read = c .before .before .before .before .before .before .before .before .before .before .before .before .before .before .before .before .before .before .before .before .before .before .before .before .before .before .before in let inv = read .before .before .loop .inv in let more = read .before .loop-test .taken in let x = read .read .result in let now = turn-now read in let opened = c .before .before .before .before .before .before .before .before .before .before .before .before .before .before .before .before .before .before .before .before .before .before in let done = c .before .before .before .before .before .before .before in inv .long .promotions
+same-length-17 c =
+    let read = c .before .before .before .before .before .before .before .before .before .before .before .before .before .before .before .before .before .before .before .before .before .before .before .before .before .before .before in
+    let inv = read .before .before .loop .inv in
+    let more = read .before .loop-test .taken in
+    let x = read .read .result in
+    let now = turn-now read in
+    let opened = c .before .before .before .before .before .before .before .before .before .before .before .before .before .before .before .before .before .before .before .before .before .before in
+    let done = c .before .before .before .before .before .before .before in
+    inv .long .promotions
 
 same-length-18 : tie.Need-same-length-18 Inv-loop μ-loop
-same-length-18 c = let read = c .before .before .before .before .before .before .before .before .before .before .before .before .before .before .before .before .before .before .before .before .before .before .before .before .before .before .before in let inv = read .before .before .loop .inv in let more = read .before .loop-test .taken in let x = read .read .result in let now = turn-now read in let opened = c .before .before .before .before .before .before .before .before .before .before .before .before .before .before .before .before .before .before .before .before .before .before in let done = c .before .before .before .before .before .before .before in done .measure .kept .1 .1 .1 .1 .1 .1 .1 .1 .1 .1 .1 .1 .1 .0 ∙ inv .long .measurements
+same-length-18 c =
+    let read = c .before .before .before .before .before .before .before .before .before .before .before .before .before .before .before .before .before .before .before .before .before .before .before .before .before .before .before in
+    let inv = read .before .before .loop .inv in
+    let more = read .before .loop-test .taken in
+    let x = read .read .result in
+    let now = turn-now read in
+    let opened = c .before .before .before .before .before .before .before .before .before .before .before .before .before .before .before .before .before .before .before .before .before .before in
+    let done = c .before .before .before .before .before .before .before in
+    done .measure .kept .1 .1 .1 .1 .1 .1 .1 .1 .1 .1 .1 .1 .1 .0 ∙ inv .long .measurements
 
 returns-3 : tie.Need-returns-3 Inv-loop μ-loop
-returns-3 c = let read = c .before .before .before .before .before .before .before .before .before .before .before .before .before .before .before .before .before .before .before .before .before .before .before .before .before .before .before in let inv = read .before .before .loop .inv in let more = read .before .loop-test .taken in let x = read .read .result in let now = turn-now read in let j2 = c .before .before .before .before .before .before .before .before .before .before .before .before .before .before .before .before .before in let opened = c .before .before .before .before .before .before .before .before .before .before .before .before .before .before .before .before .before .before .before .before .before .before in let through = let-through (c .before .before .before .before .before .before .before .before .before .before .before .before .before .before .before .before .before .before .before) in let told = c .before .before .before .before .before .before .before .before .before .before .before .before .before .before .before .instruction2 .given .1 in let done = c .before .before .before .before .before .before .before in measure-stops inv more x now _ _ _ _ _ told through (j2 .if2 .state) (met j2) (opened .«open» .result .join) (opened .«open» .ensures .1) (done .measure .result .number) _ _ (done .measure .ensures) (c .if5 .taken)
+returns-3 c =
+    let read = c .before .before .before .before .before .before .before .before .before .before .before .before .before .before .before .before .before .before .before .before .before .before .before .before .before .before .before in
+    let inv = read .before .before .loop .inv in
+    let more = read .before .loop-test .taken in
+    let x = read .read .result in
+    let now = turn-now read in
+    let j2 = c .before .before .before .before .before .before .before .before .before .before .before .before .before .before .before .before .before in
+    let opened = c .before .before .before .before .before .before .before .before .before .before .before .before .before .before .before .before .before .before .before .before .before .before in
+    let through = let-through (c .before .before .before .before .before .before .before .before .before .before .before .before .before .before .before .before .before .before .before) in
+    let told = c .before .before .before .before .before .before .before .before .before .before .before .before .before .before .before .instruction2 .given .1 in
+    let done = c .before .before .before .before .before .before .before in
+    measure-stops inv more x now _ _ _ _ _ told through (j2 .if2 .state) (met j2) (opened .«open» .result .join) (opened .«open» .ensures .1) (done .measure .result .number) _ _ (done .measure .ensures) (c .if5 .taken)
 
 remove-requires : tie.Need-remove-requires Inv-loop μ-loop
-remove-requires c κs = let read = c .before .before .before .before .before .before .before .before .before .before .before .before .before .before .before .before .before .before .before .before .before .before .before .before .before .before .before .before in let inv = read .before .before .loop .inv in let more = read .before .loop-test .taken in let x = read .read .result in let now = turn-now read in let j2 = c .before .before .before .before .before .before .before .before .before .before .before .before .before .before .before .before .before .before in let opened = c .before .before .before .before .before .before .before .before .before .before .before .before .before .before .before .before .before .before .before .before .before .before .before in let through = let-through (c .before .before .before .before .before .before .before .before .before .before .before .before .before .before .before .before .before .before .before .before) in let told = c .before .before .before .before .before .before .before .before .before .before .before .before .before .before .before .before .instruction2 .given .1 in let done = c .before .before .before .before .before .before .before .before in remove-asks inv more x now _ _ _ _ _ told through (j2 .if2 .state) (met j2) (opened .«open» .result .join) (opened .«open» .ensures .1) (done .measure .result .number) _ (done .measure .ensures) (c .before .if5 .left)
+remove-requires c κs =
+    let read = c .before .before .before .before .before .before .before .before .before .before .before .before .before .before .before .before .before .before .before .before .before .before .before .before .before .before .before .before in
+    let inv = read .before .before .loop .inv in
+    let more = read .before .loop-test .taken in
+    let x = read .read .result in
+    let now = turn-now read in
+    let j2 = c .before .before .before .before .before .before .before .before .before .before .before .before .before .before .before .before .before .before in
+    let opened = c .before .before .before .before .before .before .before .before .before .before .before .before .before .before .before .before .before .before .before .before .before .before .before in
+    let through = let-through (c .before .before .before .before .before .before .before .before .before .before .before .before .before .before .before .before .before .before .before .before) in
+    let told = c .before .before .before .before .before .before .before .before .before .before .before .before .before .before .before .before .instruction2 .given .1 in
+    let done = c .before .before .before .before .before .before .before .before in
+    remove-asks inv more x now _ _ _ _ _ told through (j2 .if2 .state) (met j2) (opened .«open» .result .join) (opened .«open» .ensures .1) (done .measure .result .number) _ (done .measure .ensures) (c .before .if5 .left)
 
 loop-less-4 : tie.Need-loop-less-4 Inv-loop μ-loop
-loop-less-4 c = let more = c .before .before .before .before .before .before .before .before .before .before .before .before .before .before .before .before .before .before .before .before .before .before .before .before .before .before .before .before .before .before .loop-test .taken in omega arith
+loop-less-4 c =
+    let more = c .before .before .before .before .before .before .before .before .before .before .before .before .before .before .before .before .before .before .before .before .before .before .before .before .before .before .before .before .before .before .loop-test .taken in
+    omega arith
 
 loop-again-4 : tie.Need-loop-again-4 Inv-loop μ-loop
-loop-again-4 c = let read = c .before .before .before .before .before .before .before .before .before .before .before .before .before .before .before .before .before .before .before .before .before .before .before .before .before .before .before .before .before in let inv = read .before .before .loop .inv in let more = read .before .loop-test .taken in let x = read .read .result in let now = turn-now read in let j2 = c .before .before .before .before .before .before .before .before .before .before .before .before .before .before .before .before .before .before .before in let opened = c .before .before .before .before .before .before .before .before .before .before .before .before .before .before .before .before .before .before .before .before .before .before .before .before in let through = let-through (c .before .before .before .before .before .before .before .before .before .before .before .before .before .before .before .before .before .before .before .before .before) in let told = c .before .before .before .before .before .before .before .before .before .before .before .before .before .before .before .before .before .instruction2 .given .1 in let done = c .before .before .before .before .before .before .before .before .before in measure-goes inv more x now _ _ _ _ _ told through (j2 .if2 .state) (met j2) (opened .«open» .result .join) (opened .«open» .ensures .1) (done .measure .result .number) (done .measure .result .tally) _ (c .remove .result) (done .measure .ensures) (c .before .before .if5 .left) (c .remove .ensures) (opened .«open» .ensures .2) refl refl (record { steps = done .measure .kept .1 .1 .1 .1 .1 .1 .1 .1 .1 .1 .1 .0 ∙ inv .long .steps; merges = opened .«open» .kept .1 .1 .1 .1 .1 .0 ∙ inv .long .merges; sizes = done .measure .kept .1 .1 .1 .1 .1 .1 .1 .1 .1 .1 .1 .1 .0 ∙ inv .long .sizes; rotations = inv .long .rotations; promotions = inv .long .promotions; measurements = done .measure .kept .1 .1 .1 .1 .1 .1 .1 .1 .1 .1 .1 .1 .1 .0 ∙ inv .long .measurements; groups = inv .long .groups })
+loop-again-4 c =
+    let read = c .before .before .before .before .before .before .before .before .before .before .before .before .before .before .before .before .before .before .before .before .before .before .before .before .before .before .before .before .before in
+    let inv = read .before .before .loop .inv in
+    let more = read .before .loop-test .taken in
+    let x = read .read .result in
+    let now = turn-now read in
+    let j2 = c .before .before .before .before .before .before .before .before .before .before .before .before .before .before .before .before .before .before .before in
+    let opened = c .before .before .before .before .before .before .before .before .before .before .before .before .before .before .before .before .before .before .before .before .before .before .before .before in
+    let through = let-through (c .before .before .before .before .before .before .before .before .before .before .before .before .before .before .before .before .before .before .before .before .before) in
+    let told = c .before .before .before .before .before .before .before .before .before .before .before .before .before .before .before .before .before .instruction2 .given .1 in
+    let done = c .before .before .before .before .before .before .before .before .before in
+    measure-goes inv more x now _ _ _ _ _ told through (j2 .if2 .state) (met j2) (opened .«open» .result .join) (opened .«open» .ensures .1) (done .measure .result .number) (done .measure .result .tally) _ (c .remove .result) (done .measure .ensures) (c .before .before .if5 .left) (c .remove .ensures) (opened .«open» .ensures .2) refl refl (record { steps = done .measure .kept .1 .1 .1 .1 .1 .1 .1 .1 .1 .1 .1 .0 ∙ inv .long .steps; merges = opened .«open» .kept .1 .1 .1 .1 .1 .0 ∙ inv .long .merges; sizes = done .measure .kept .1 .1 .1 .1 .1 .1 .1 .1 .1 .1 .1 .1 .0 ∙ inv .long .sizes; rotations = inv .long .rotations; promotions = inv .long .promotions; measurements = done .measure .kept .1 .1 .1 .1 .1 .1 .1 .1 .1 .1 .1 .1 .1 .0 ∙ inv .long .measurements; groups = inv .long .groups })
 
 put-step-requires-2 : tie.Need-put-step-requires-2 Inv-loop μ-loop
-put-step-requires-2 c κs = let read = c .before .before .before .before .before .before .before .before .before .before .before .before in let inv = read .before .before .loop .inv in let more = read .before .loop-test .taken in let x = read .read .result in let now = turn-now read in step-room inv more x now
+put-step-requires-2 c κs =
+    let read = c .before .before .before .before .before .before .before .before .before .before .before .before in
+    let inv = read .before .before .loop .inv in
+    let more = read .before .loop-test .taken in
+    let x = read .read .result in
+    let now = turn-now read in
+    step-room inv more x now
 
 loop-less-5 : tie.Need-loop-less-5 Inv-loop μ-loop
-loop-less-5 c = let more = c .before .before .before .before .before .before .before .before .before .before .before .before .before .before .before .before .loop-test .taken in omega arith
+loop-less-5 c =
+    let more = c .before .before .before .before .before .before .before .before .before .before .before .before .before .before .before .before .loop-test .taken in
+    omega arith
 
 loop-again-5 : tie.Need-loop-again-5 Inv-loop μ-loop
-loop-again-5 c = let read = c .before .before .before .before .before .before .before .before .before .before .before .before .before .before .before in let inv = read .before .before .loop .inv in let more = read .before .loop-test .taken in let x = read .read .result in let now = turn-now read in let j2 = c .before .before .before .before .before in let opened = c .before .before .before .before .before .before .before .before .before .before in let through = let-through (c .before .before .before .before .before .before .before) in let done = c .before .before in let quiet = does-nothing _ (inv .w) _ _ x (c .before .before .before .before .match .keys4) in plain-goes inv more x now (quiet .0) (quiet .1) (j2 .if2 .state) (met j2) _ (done .put-step2 .ensures) (opened .«open» .ensures .2) refl refl refl refl (record { steps = done .put-step2 .kept .0 ∙ inv .long .steps; merges = opened .«open» .kept .1 .1 .1 .1 .1 .0 ∙ inv .long .merges; sizes = inv .long .sizes; rotations = inv .long .rotations; promotions = inv .long .promotions; measurements = inv .long .measurements; groups = inv .long .groups })
+loop-again-5 c =
+    let read = c .before .before .before .before .before .before .before .before .before .before .before .before .before .before .before in
+    let inv = read .before .before .loop .inv in
+    let more = read .before .loop-test .taken in
+    let x = read .read .result in
+    let now = turn-now read in
+    let j2 = c .before .before .before .before .before in
+    let opened = c .before .before .before .before .before .before .before .before .before .before in
+    let through = let-through (c .before .before .before .before .before .before .before) in
+    let done = c .before .before in
+    let quiet = does-nothing _ (inv .w) _ _ x (c .before .before .before .before .match .keys4) in
+    plain-goes inv more x now (quiet .0) (quiet .1) (j2 .if2 .state) (met j2) _ (done .put-step2 .ensures) (opened .«open» .ensures .2) refl refl refl refl (record { steps = done .put-step2 .kept .0 ∙ inv .long .steps; merges = opened .«open» .kept .1 .1 .1 .1 .1 .0 ∙ inv .long .merges; sizes = inv .long .sizes; rotations = inv .long .rotations; promotions = inv .long .promotions; measurements = inv .long .measurements; groups = inv .long .groups })
 
 write-counts-requires : tie.Need-write-counts-requires Inv-loop μ-loop
-write-counts-requires c κs = let inv = c .before .before .before .before .loop .inv in let all = c .before .before .before .loop-test .left in (groups-fit inv all, count-small inv all)
+write-counts-requires c κs =
+    let inv = c .before .before .before .before .loop .inv in
+    let all = c .before .before .before .loop-test .left in
+    (groups-fit inv all, count-small inv all)
 
 write-members-requires : tie.Need-write-members-requires Inv-loop μ-loop
-write-members-requires c κs = let inv = c .before .before .before .before .before .before .before .before .before .before .before .before .before .loop .inv in let all = c .before .before .before .before .before .before .before .before .before .before .before .before .loop-test .left in places-fit inv all _ (c .before .before .before .before .before .before .before .before .write-counts .last .1 .1 .0) (c .before .before .before .before .before .before .before .before .write-counts .ensures .0) (c .before .before .before .before .before .before .before .before .write-counts .ensures .2)
+write-members-requires c κs =
+    let inv = c .before .before .before .before .before .before .before .before .before .before .before .before .before .loop .inv in
+    let all = c .before .before .before .before .before .before .before .before .before .before .before .before .loop-test .left in
+    places-fit inv all _ (c .before .before .before .before .before .before .before .before .write-counts .last .1 .1 .0) (c .before .before .before .before .before .before .before .before .write-counts .ensures .0) (c .before .before .before .before .before .before .before .before .write-counts .ensures .2)
 
 same-length-19 : tie.Need-same-length-19 Inv-loop μ-loop
 same-length-19 c = search needs
@@ -270,7 +587,10 @@ same-length-25 : tie.Need-same-length-25 Inv-loop μ-loop
 same-length-25 c = search needs
 
 returns-4 : tie.Need-returns-4 Inv-loop μ-loop
-returns-4 c = let inv = c .before .before .before .before .before .before .before .before .before .before .before .before .before .before .before .before .loop .inv in let all = c .before .before .before .before .before .before .before .before .before .before .before .before .before .before .before .loop-test .left in finishes inv all (c .before .before .before .before .before .before .before .before .before .before .before .write-counts .result .used) (c .before .before .before .before .before .before .before .before .before .before .before .write-counts .result .start) (c .before .before .before .before .before .before .before .before .before .before .before .write-counts .last .1 .1 .0) (c .before .before .write-members .last .1 .1 .1 .1 .1 .0) (c .before .before .before .before .before .before .before .before .before .before .before .write-counts .ensures .1) (c .before .before .before .before .before .before .before .before .before .before .before .write-counts .ensures .0) (c .before .before .before .before .before .before .before .before .before .before .before .write-counts .ensures .2) (c .before .before .write-members .ensures)
+returns-4 c =
+    let inv = c .before .before .before .before .before .before .before .before .before .before .before .before .before .before .before .before .loop .inv in
+    let all = c .before .before .before .before .before .before .before .before .before .before .before .before .before .before .before .loop-test .left in
+    finishes inv all (c .before .before .before .before .before .before .before .before .before .before .before .write-counts .result .used) (c .before .before .before .before .before .before .before .before .before .before .before .write-counts .result .start) (c .before .before .before .before .before .before .before .before .before .before .before .write-counts .last .1 .1 .0) (c .before .before .write-members .last .1 .1 .1 .1 .1 .0) (c .before .before .before .before .before .before .before .before .before .before .before .write-counts .ensures .1) (c .before .before .before .before .before .before .before .before .before .before .before .write-counts .ensures .0) (c .before .before .before .before .before .before .before .before .before .before .before .write-counts .ensures .2) (c .before .before .write-members .ensures)
 
 pub walk-spec : {M : Type 1} → statement M
 walk-spec =
