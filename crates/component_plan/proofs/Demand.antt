@@ -19,7 +19,7 @@ use Rattle.component_plan.specs.Answer.{outcomeOf, outcomeIn, Held, Answ
 use Rattle.component_plan.specs.Demand.{planIn}
 
 -- an answer that is a plan is the definition's plan: its fields, and its words followed by zeros
-planned-pads : (result : Result) (before after : Buffers) (r : ActiveComponentPlan) → outcomeOf (P.Plan r) ≡ outcomeIn result → Held result before after
+pub planned-pads : (result : Result) (before after : Buffers) (r : ActiveComponentPlan) → outcomeOf (P.Plan r) ≡ outcomeIn result → Held result before after
     → (p : Plan) × (result ≡ planned p) × Pads p (planIn r after)
 planned-pads (planned p) before after r e held =
     let initial : r .«initial_components» ≡ p .initialComponents = cc in

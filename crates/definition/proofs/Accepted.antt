@@ -27,6 +27,7 @@ pub record Accepted (limit : ℕ) (h : Head) (ws : List ℕ) (l : Lengths) (p : 
   pub buffers : buffersRefused (length ws / 8) l ≡ false
   pub initial-small : h .«initial_k» ≤ 512
   pub passed : recordPass (h .«initial_k») ws ≡ Passed
+  pub walked : walkFrom limit 0 (start (h .«initial_k»)) (instructionsOf ws) ≡ finished last
   pub run : Run limit (start (h .«initial_k»)) (instructionsOf ws) last
   pub plan-is : p ≡ planFrom (h .«initial_k») densePeak last
 
@@ -64,6 +65,7 @@ accepted limit h ws l p read e =
       buffers = third .0;
       initial-small = ltb-false 512 (h .«initial_k») (fourth .0);
       passed = pass .0;
+      walked = walk .1;
       run = run-of-walk limit 0 (start (h .«initial_k»)) (walk .0) (instructionsOf ws) (walk .1);
       plan-is = walk .2;
     }

@@ -1,5 +1,6 @@
 pub mod Circuits
 pub mod Counting
+pub mod Filled
 pub mod Steps
 pub mod Joins
 pub mod LocalBits

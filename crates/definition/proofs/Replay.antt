@@ -36,13 +36,13 @@ seam-second xs zs a b n l e =
     ∙ getD-at (xs ++ (a ∷ [])) b (e .0) 0 (suc n) (length-append xs (a ∷ []) ∙ omega arith)
 
 -- a part
-seam-part : (xs ys zs : List ℕ) → Extends (xs ++ ys) zs → take (length ys) (drop (length xs) zs) ≡ ys
+pub seam-part : (xs ys zs : List ℕ) → Extends (xs ++ ys) zs → take (length ys) (drop (length xs) zs) ≡ ys
 seam-part xs ys zs e =
     ap (λ (l : List ℕ). take (length ys) (drop (length xs) l)) (e .1 ∙ append-assoc xs ys (e .0))
     ∙ ap (take (length ys)) (drop-append-seam xs (ys ++ e .0)) ∙ take-append-seam ys (e .0)
 
 -- an entry
-seam-entry : {A : Type 0} (xs zs : List A) (a d : A) → Extends (xs ++ (a ∷ [])) zs → getD zs (length xs) d ≡ a
+pub seam-entry : {A : Type 0} (xs zs : List A) (a d : A) → Extends (xs ++ (a ∷ [])) zs → getD zs (length xs) d ≡ a
 seam-entry xs zs a d e = ap (λ (l : List _). getD l (length xs) d) (e .1 ∙ append-assoc xs (a ∷ []) (e .0)) ∙ getD-at xs a (e .0) d (length xs) refl
 
 pub seam-below : {A : Type 0} (xs zs : List A) (a : A) → Extends (xs ++ (a ∷ [])) zs → length xs < length zs

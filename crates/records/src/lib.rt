@@ -58,7 +58,7 @@ fn word(words: &[u64], i: usize, j: usize) -> u64
 }
 
 // The binary64 value that the bits stand for; each NaN pattern is the one NaN.
-fn float_of(bits: u64) -> f64
+pub fn float_of(bits: u64) -> f64
     ensures { λ r. ⌜ r ≡ ofBits binary64 bits ⌝ }
 {
     if 0x7ff0_0000_0000_0000 < bits % 0x8000_0000_0000_0000 {
