@@ -17,6 +17,10 @@ part-there ws offset count h = rw (le-leb _ _ h)
 pub part-past : (ws : List ℕ) (offset count : ℕ) → length ws < offset + count → partOf ws offset count ≡ []
 part-past ws offset count h = rw (lt-leb _ _ h)
 
+-- a part of no words, where the one that is asked for runs past the end
+pub part-none : (ws : List ℕ) (offset count n : ℕ) → n ≡ 0 → length ws < offset + count → take n (drop offset ws) ≡ partOf ws offset count
+part-none ws offset count n e h = ap (λ (k : ℕ). take k (drop offset ws)) e ∙ sym (part-past ws offset count h)
+
 pub row-there : (n : ℕ) (ws : List ℕ) (i : ℕ) → n * i + n ≤ length ws → rowAt n ws i ≡ some (take n (drop (n * i) ws))
 row-there n ws i h = rw (le-leb _ _ h)
 

@@ -50,11 +50,12 @@ pub fn merge_sources(merges: &[u64], offset: u64, count: u64) -> &[u64]
 {
     let at = offset as usize;
     let many = count as usize;
-    if merges.len() < at {
+    let all = merges.len();
+    if all < at {
         return &merges[..0];
     }
-    if merges.len() - at < many {
-        return &merges[..0];
+    if all - at < many {
+        return &merges[at..at];
     }
     let end = at + many;
     &merges[at..end]
@@ -184,13 +185,14 @@ pub fn read_measurement(measurements: &[u64], number: u64) -> MeasurementRead
 fn rotation_or_zero(rotations: &[u64], i: usize) -> RotationRow
     ensures { λ r. ⌜ r ≡ rotationOrZero (now (rotations .entry)) i ⌝ }
 {
-    if rotations.len() / 21 <= i {
-        let zeros = [0u64; 21];
-        return rotation_of(&zeros[..]);
+    let read = read_rotation(rotations, i as u64);
+    match read {
+        RotationRead::Row(row) => row,
+        RotationRead::PastEnd => {
+            let zeros = [0u64; 21];
+            rotation_of(&zeros[..])
+        }
     }
-    let at = 21 * i;
-    let end = at + 21;
-    rotation_of(&rotations[at..end])
 }
 
 // Fills a lent slice of row structs: struct i has the values of row i, and a struct past the last row is all zero.

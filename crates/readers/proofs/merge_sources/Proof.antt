@@ -4,7 +4,7 @@ use mathlib.Core.Path.{_≡_, sym}
 use Prim.Native.Nat.{_+_, _-_}
 use native.Mathlib.Omega.{arith}
 use denote.Ref.{now}
-use Rattle.readers.proofs.Rows.{part-there, part-past}
+use Rattle.readers.proofs.Rows.{part-there, part-past, part-none}
 use borrow.Author.Needs.{needs}
 use Rattle.readers.proofs.merge_sources.Statement.{statement}
 use Rattle.readers.proofs.merge_sources.Tie as tie
@@ -14,18 +14,6 @@ slice-aggregate-result c = search needs
 
 returns : tie.Need-returns
 returns c = let a = c .before .before .args in sym (part-past (now (a .merges)) (a .offset) (a .count) (omega arith))
-
-sub-if2 : tie.Need-sub-if2
-sub-if2 c = search needs
-
-slice-aggregate-result-2 : tie.Need-slice-aggregate-result-2
-slice-aggregate-result-2 c = search needs
-
-returns-2 : tie.Need-returns-2
-returns-2 c = let a = c .before .before .before .args in sym (part-past (now (a .merges)) (a .offset) (a .count) (omega arith))
-
-add-end : tie.Need-add-end
-add-end c = search needs
 
 mul-result : tie.Need-mul-result
 mul-result c = search needs
@@ -39,6 +27,24 @@ part-result-start c = search needs
 part-result-end : tie.Need-part-result-end
 part-result-end c = search needs
 
+returns-2 : tie.Need-returns-2
+returns-2 c = let a = c .before .before .before .args in part-none (now (a .merges)) (a .offset) (a .count) (a .offset - a .offset) (omega arith) (omega arith)
+
+add-end : tie.Need-add-end
+add-end c = search needs
+
+mul-result-2 : tie.Need-mul-result-2
+mul-result-2 c = search needs
+
+sub-result-2 : tie.Need-sub-result-2
+sub-result-2 c = search needs
+
+part-result-start-2 : tie.Need-part-result-start-2
+part-result-start-2 c = search needs
+
+part-result-end-2 : tie.Need-part-result-end-2
+part-result-end-2 c = search needs
+
 returns-3 : tie.Need-returns-3
 returns-3 c =
     let a = c .before .before .before .args in
@@ -51,12 +57,14 @@ merge-sources-spec =
     (tie.spec
     slice-aggregate-result
     returns
-    sub-if2
-    slice-aggregate-result-2
-    returns-2
-    add-end
     mul-result
     sub-result
     part-result-start
     part-result-end
+    returns-2
+    add-end
+    mul-result-2
+    sub-result-2
+    part-result-start-2
+    part-result-end-2
     returns-3)
