@@ -23,7 +23,7 @@ const MODULES: [&str; 9] = [
 fn declaration(folder: &Path, module: &str) -> String {
     let file = folder.join("src").join(format!("{module}.rs"));
     println!("cargo::rerun-if-changed={}", file.display());
-    format!("#[allow(unused)]\n#[path = {file:?}]\nmod {module};\n")
+    format!("#[allow(unused)]\n#[path = {file:?}]\npub mod {module};\n")
 }
 
 fn main() {

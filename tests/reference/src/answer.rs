@@ -12,6 +12,7 @@ pub enum Answer {
     Plan(ActiveComponentPlan),
 }
 
+/// The Rust's answer, or 01's own refusal where it comes first.
 pub fn answer(program: &Program) -> Result<Answer, String> {
     if let Some(refusal) = refusals::of_head(program) {
         return Ok(Answer::Refused(refusal));

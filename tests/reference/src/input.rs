@@ -3,8 +3,19 @@
 /// Words in a record.
 pub const RECORD_WORDS: usize = 8;
 
+/// The seven lent buffers, in the order of their lengths.
+pub const BUFFERS: [&str; 7] = [
+    "steps",
+    "merges",
+    "sizes",
+    "rotations",
+    "promotions",
+    "measurements",
+    "groups",
+];
+
 /// The head, the lengths of the lent buffers if they are given, and the record words.
-#[derive(Clone)]
+#[derive(Clone, Debug)]
 pub struct Program {
     pub initial_k: u64,
     pub max_k: u64,
@@ -25,7 +36,8 @@ pub struct Record {
 }
 
 impl Record {
-    fn from_words(words: &[u64]) -> Self {
+    /// The record of eight words.
+    pub fn from_words(words: &[u64]) -> Self {
         Self {
             kind: words[0],
             width: words[1],
@@ -36,14 +48,17 @@ impl Record {
         }
     }
 
+    /// Whether it is of kind 0.
     pub fn is_rotation(&self) -> bool {
         self.kind == 0
     }
 
+    /// Whether it is of kind 1.
     pub fn is_promotion(&self) -> bool {
         self.kind == 1
     }
 
+    /// Whether it is of kind 4.
     pub fn is_measurement(&self) -> bool {
         self.kind == 4
     }
@@ -69,6 +84,12 @@ impl Record {
     }
 }
 
+/// Whether a line holds no program.
+pub fn is_skipped(line: &str) -> bool {
+    line.starts_with('#') || line.trim().is_empty()
+}
+
+/// A decimal or hexadecimal number.
 fn parse_number(text: &str) -> Result<u64, String> {
     let (digits, radix) = match text.strip_prefix("0x") {
         Some(digits) => (digits, 16),
@@ -80,10 +101,12 @@ fn parse_number(text: &str) -> Result<u64, String> {
     u64::from_str_radix(digits, radix).map_err(|error| format!("{text:?} is not a number: {error}"))
 }
 
+/// Numbers with spaces between.
 fn parse_numbers(part: &str) -> Result<Vec<u64>, String> {
     part.split_whitespace().map(parse_number).collect()
 }
 
+/// Seven buffer lengths, or none.
 fn parse_lengths(part: &str) -> Result<Option<[u64; 7]>, String> {
     let numbers = parse_numbers(part)?;
     match numbers.len() {
@@ -94,6 +117,7 @@ fn parse_lengths(part: &str) -> Result<Option<[u64; 7]>, String> {
 }
 
 impl Program {
+    /// The program of a line.
     pub fn parse(line: &str) -> Result<Self, String> {
         let parts: Vec<&str> = line.split(';').collect();
         let [head, lengths, words] = parts[..] else {
@@ -129,12 +153,7 @@ impl Program {
     /// The same program with Rust's own sine and cosine in every rotation.
     pub fn filled(&self) -> Self {
         let mut filled = self.clone();
-        for words in filled.words.chunks_exact_mut(RECORD_WORDS) {
-            let record = Record::from_words(words);
-            if record.is_rotation() {
-                words[6..].copy_from_slice(&record.own_sine_and_cosine());
-            }
-        }
+        fill(&mut filled.words);
         filled
     }
 
@@ -150,6 +169,17 @@ impl Program {
     }
 }
 
+/// Puts Rust's own sine and cosine into every rotation.
+pub fn fill(words: &mut [u64]) {
+    for words in words.chunks_exact_mut(RECORD_WORDS) {
+        let record = Record::from_words(words);
+        if record.is_rotation() {
+            words[6..].copy_from_slice(&record.own_sine_and_cosine());
+        }
+    }
+}
+
+/// A record's words, masks and floats in hexadecimal.
 fn record_text(words: &[u64]) -> Vec<String> {
     let floats_from = if words[0] == 0 { 5 } else { RECORD_WORDS };
     let word_text = |(place, word): (usize, &u64)| match place {

@@ -25,6 +25,7 @@ fn action(record: &Record) -> ActivePauliAction {
     }
 }
 
+/// The Rust's rotation.
 fn rotation(record: &Record) -> ApplyPrecomputedActivePauliRotation {
     ApplyPrecomputedActivePauliRotation {
         rotation_kernel: PrecomputedActivePauliRotationKernel {
@@ -54,6 +55,7 @@ fn measurement(record: &Record) -> MeasurePrecomputedActivePauli {
     }
 }
 
+/// The Rust's instruction of the record's kind.
 fn instruction(record: &Record) -> Result<FactoredInstruction, String> {
     use FactoredInstruction as Rust;
     match record.kind {

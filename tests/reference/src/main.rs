@@ -21,24 +21,17 @@
 //! stops counts too) whose sine or cosine word is not Rust's own for its angle.
 //!
 //! With `--fill` each program is printed again, those words replaced by Rust's own.
+//! With `random SEED COUNT` nothing is read, and so many random programs are printed.
+//! With `vectors` nothing is read, and the fixed vectors are written as bytes.
 //!
 //! Exit status: 0, or 2 for a malformed line or option, or 3 for anything that was not
 //! foreseen, which never becomes an answer.
 
-include!(concat!(env!("OUT_DIR"), "/modules.rs"));
-
-mod answer;
-mod input;
-mod instructions;
-mod output;
-mod refusals;
-mod replay;
-mod walk;
-
 use std::io::{self, BufRead, BufWriter, Write};
 use std::process::ExitCode;
 
-use input::Program;
+use midvokt_reference::input::{Program, is_skipped};
+use midvokt_reference::{answer, generator, machine, output, vectors};
 
 /// Why a run ends early, and its exit status.
 struct Trouble {
@@ -47,14 +40,17 @@ struct Trouble {
 }
 
 impl Trouble {
+    /// Something wrong in the input or the options.
     fn malformed(message: String) -> Self {
         Self { status: 2, message }
     }
 
+    /// Something that was not foreseen.
     fn unforeseen(message: String) -> Self {
         Self { status: 3, message }
     }
 
+    /// The same with the number of the line.
     fn at_line(mut self, number: usize) -> Self {
         self.message = format!("line {number}: {}", self.message);
         self
@@ -62,38 +58,38 @@ impl Trouble {
 }
 
 impl From<io::Error> for Trouble {
+    /// A failed read or write.
     fn from(error: io::Error) -> Self {
         Self::unforeseen(error.to_string())
     }
 }
 
-/// Whether `--fill` was given, the only option there is.
-fn is_fill_wanted() -> Result<bool, Trouble> {
-    let options: Vec<String> = std::env::args().skip(1).collect();
-    match options.as_slice() {
-        [] => Ok(false),
-        [option] if option == "--fill" => Ok(true),
+/// What a run is for.
+enum Task {
+    Answer,
+    Fill,
+    Random { seed: u64, count: u64 },
+    Vectors,
+}
+
+/// The task that the options name.
+fn task(options: &[String]) -> Result<Task, Trouble> {
+    let number = |text: &str| {
+        text.parse()
+            .map_err(|error| Trouble::malformed(format!("{text:?} is not a number: {error}")))
+    };
+    match options.iter().map(String::as_str).collect::<Vec<_>>()[..] {
+        [] => Ok(Task::Answer),
+        ["--fill"] => Ok(Task::Fill),
+        ["random", seed, count] => Ok(Task::Random {
+            seed: number(seed)?,
+            count: number(count)?,
+        }),
+        ["vectors"] => Ok(Task::Vectors),
         _ => Err(Trouble::malformed(format!(
-            "{options:?}: the only option is --fill"
+            "{options:?}: the options are --fill, random SEED COUNT, and vectors"
         ))),
     }
-}
-
-/// 01 reads exp2 as the exact power of two; the Rust takes it from this machine, which
-/// is tried here for every exponent that planning can ask for.
-fn check_exact_powers() -> Result<(), Trouble> {
-    for exponent in 0..=512u64 {
-        let power = std::hint::black_box(exponent as f64).exp2();
-        if power.to_bits() != (1023 + exponent) << 52 {
-            let message = format!("exp2 of {exponent} is not exact on this machine");
-            return Err(Trouble::unforeseen(message));
-        }
-    }
-    Ok(())
-}
-
-fn is_skipped(line: &str) -> bool {
-    line.starts_with('#') || line.trim().is_empty()
 }
 
 /// What is printed for one line.
@@ -106,9 +102,8 @@ fn handle(line: &str, fill: bool) -> Result<String, Trouble> {
     output::text(&answer).map_err(Trouble::unforeseen)
 }
 
-fn handle_all(output: &mut impl Write) -> Result<(), Trouble> {
-    let fill = is_fill_wanted()?;
-    check_exact_powers()?;
+/// Handles each program that is read.
+fn handle_all(output: &mut impl Write, fill: bool) -> Result<(), Trouble> {
     for (index, line) in io::stdin().lock().lines().enumerate() {
         let line =
             line.map_err(|error| Trouble::malformed(error.to_string()).at_line(index + 1))?;
@@ -120,11 +115,34 @@ fn handle_all(output: &mut impl Write) -> Result<(), Trouble> {
     Ok(())
 }
 
+/// Does what the options ask for.
+fn work(output: &mut impl Write) -> Result<(), Trouble> {
+    let options: Vec<String> = std::env::args().skip(1).collect();
+    let task = task(&options)?;
+    machine::check_exact_powers().map_err(Trouble::unforeseen)?;
+    match task {
+        Task::Answer => handle_all(output, false),
+        Task::Fill => handle_all(output, true),
+        Task::Random { seed, count } => {
+            for index in 0..count {
+                writeln!(output, "{}", generator::program(seed, index).text())?;
+            }
+            Ok(())
+        }
+        Task::Vectors => {
+            for word in vectors::words().map_err(Trouble::unforeseen)? {
+                output.write_all(&word.to_le_bytes())?;
+            }
+            Ok(())
+        }
+    }
+}
+
 fn main() -> ExitCode {
     let mut output = BufWriter::new(io::stdout().lock());
-    let handled = handle_all(&mut output);
+    let worked = work(&mut output);
     let flushed = output.flush().map_err(Trouble::from);
-    match handled.and(flushed) {
+    match worked.and(flushed) {
         Ok(()) => ExitCode::SUCCESS,
         Err(trouble) => {
             eprintln!("midvokt-reference: {}", trouble.message);

@@ -9,10 +9,11 @@ pub struct Refusal {
     pub index: usize,
 }
 
-const MOST_RECORD_WORDS: usize = 8192;
-const MOST_COORDINATES: u64 = 512;
-const MOST_WIDTH: u64 = 62;
+pub const MOST_RECORD_WORDS: usize = 8192;
+pub const MOST_COORDINATES: u64 = 512;
+pub const MOST_WIDTH: u64 = 62;
 
+/// A refusal of the head or the buffers.
 fn without_record(number: u64) -> Option<Refusal> {
     Some(Refusal { number, index: 0 })
 }
@@ -47,10 +48,11 @@ pub fn before_the_walk(program: &Program) -> Option<Refusal> {
 }
 
 /// The least lengths of the seven buffers, for n records.
-fn least_lengths(n: u64) -> [u64; 7] {
+pub fn least_lengths(n: u64) -> [u64; 7] {
     [2 * n, n + 512, 512, 21 * n, n, 19 * n, 1024]
 }
 
+/// Whether refusal 3 applies.
 fn has_short_buffer(program: &Program) -> bool {
     let least = least_lengths((program.words.len() / RECORD_WORDS) as u64);
     let lengths = program.lengths.unwrap_or(least);
@@ -60,6 +62,7 @@ fn has_short_buffer(program: &Program) -> bool {
         .any(|(&length, least)| length < least)
 }
 
+/// The first record that the pass refuses.
 fn of_record_pass(initial_k: u64, records: &[Record]) -> Option<Refusal> {
     let mut coordinates = initial_k;
     for (index, record) in records.iter().enumerate() {
@@ -91,6 +94,7 @@ fn of_measurement(record: &Record) -> Option<u64> {
     }
 }
 
+/// Refusals 6 and 7.
 fn of_action(record: &Record) -> Option<u64> {
     if record.width > MOST_WIDTH {
         Some(6)
@@ -101,6 +105,7 @@ fn of_action(record: &Record) -> Option<u64> {
     }
 }
 
+/// Refusal 8.
 fn of_floats(record: &Record) -> Option<u64> {
     let is_in_range = |word: u64| (-1.0..=1.0).contains(&f64::from_bits(word));
     let [_, sine, cosine] = record.last;

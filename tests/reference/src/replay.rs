@@ -13,6 +13,7 @@ fn sources(plan: &ActiveComponentPlan, offset: usize, count: usize) -> Result<&[
         .ok_or_else(|| "a row points past the merge list".to_owned())
 }
 
+/// The members of a live component, which has none afterwards.
 fn taken(components: &mut Components, number: usize) -> Result<Vec<usize>, String> {
     let members = components
         .get_mut(number)
@@ -70,6 +71,7 @@ fn join_row(
     join(components, sources, component, width)
 }
 
+/// Plays a rotation row.
 fn rotate(
     plan: &ActiveComponentPlan,
     components: &mut Components,
@@ -83,6 +85,7 @@ fn rotate(
     join_row(plan, components, row.component, merge, row.kernel.action.nqubits)
 }
 
+/// Plays a measurement row.
 fn measure(
     plan: &ActiveComponentPlan,
     components: &mut Components,
@@ -109,6 +112,7 @@ fn measure(
     }
 }
 
+/// Plays one step.
 fn play(
     plan: &ActiveComponentPlan,
     components: &mut Components,

@@ -54,6 +54,7 @@ const NUMBERS: [(&str, u64); 10] = [
     ),
 ];
 
+/// 01's number for a message of the Rust.
 fn number_of(message: &str) -> Result<u64, String> {
     let found = NUMBERS.iter().find(|(text, _)| *text == message);
     found
@@ -113,6 +114,7 @@ fn may_stop(record: &Record, number: u64) -> bool {
     }
 }
 
+/// The Rust's plan for the records, or where and why it stops.
 pub fn walk(program: &Program, records: &[Record]) -> Result<Walked, String> {
     let message = match plan(program, records)? {
         Ok(plan) => return Ok(Walked::Plan(plan)),

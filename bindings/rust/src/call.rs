@@ -1,0 +1,264 @@
+//! The call of the proved library over lent buffers, with nothing allocated.
+
+use crate::plan::{
+    ActiveComponentMeasurementStep, ActiveComponentPromotionStep, ActiveComponentRotationStep,
+    ActiveComponentStepRef, MEASUREMENT_WORDS, ROTATION_WORDS, STEP_WORDS,
+};
+use crate::refusal::Refusal;
+use crate::words::Words;
+
+/// Words of a whole result: the refusal's record, then the eight scalar fields.
+pub const RESULT_WORDS: usize = 9;
+
+/// What planning knows of a program beside its records.
+#[derive(Clone, Copy, Debug, Default, PartialEq, Eq)]
+pub struct Head {
+    /// The number of active coordinates at the start.
+    pub initial_k: u64,
+    /// The greatest number of active coordinates, which gives the dense peak.
+    pub max_k: u64,
+    /// The number of expectation values; other than 0, nothing is split.
+    pub nexpvals: u64,
+}
+
+impl Head {
+    /// Whether planning accepts without reading records or buffers.
+    pub fn leaves_unread(&self) -> bool {
+        self.max_k < 8 || self.nexpvals != 0
+    }
+}
+
+/// The lengths of the seven buffers, in words.
+#[derive(Clone, Copy, Debug, PartialEq, Eq)]
+pub struct Lengths {
+    /// Two words a record.
+    pub steps: usize,
+    /// A word for each source of each row.
+    pub merges: usize,
+    /// A word for each component.
+    pub sizes: usize,
+    /// 21 words a rotation row.
+    pub rotations: usize,
+    /// A word for each promotion row.
+    pub promotions: usize,
+    /// 19 words a measurement row.
+    pub measurements: usize,
+    /// For each live component a count and its members.
+    pub groups: usize,
+}
+
+impl Lengths {
+    /// The least lengths that are enough for so many records.
+    pub const fn for_records(records: usize) -> Self {
+        Self {
+            steps: STEP_WORDS * records,
+            merges: records + 512,
+            sizes: 512,
+            rotations: ROTATION_WORDS * records,
+            promotions: records,
+            measurements: MEASUREMENT_WORDS * records,
+            groups: 1024,
+        }
+    }
+}
+
+/// The seven buffers that the caller lends. Each call writes every word of them.
+#[derive(Debug)]
+pub struct Buffers<'a> {
+    /// Kind and payload of each record's step.
+    pub steps: &'a mut [u64],
+    /// The sources of all rows, one row's after the other's.
+    pub merges: &'a mut [u64],
+    /// The longest size of each component.
+    pub sizes: &'a mut [u64],
+    /// Rotation rows.
+    pub rotations: &'a mut [u64],
+    /// Promotion rows.
+    pub promotions: &'a mut [u64],
+    /// Measurement rows.
+    pub measurements: &'a mut [u64],
+    /// The components that live at the end.
+    pub groups: &'a mut [u64],
+}
+
+/// Row number `number` of rows that have so many words.
+fn row(words: &[u64], size: usize, number: usize) -> Option<&[u64]> {
+    let start = number.checked_mul(size)?;
+    words.get(start..start.checked_add(size)?)
+}
+
+impl Buffers<'_> {
+    /// The step of a record.
+    pub fn step(&self, record: usize) -> Option<ActiveComponentStepRef> {
+        row(self.steps, STEP_WORDS, record).map(ActiveComponentStepRef::from_words)
+    }
+
+    /// A rotation row.
+    pub fn rotation(&self, number: usize) -> Option<ActiveComponentRotationStep> {
+        row(self.rotations, ROTATION_WORDS, number).map(ActiveComponentRotationStep::from_words)
+    }
+
+    /// A promotion row.
+    pub fn promotion(&self, number: usize) -> Option<ActiveComponentPromotionStep> {
+        row(self.promotions, 1, number).map(ActiveComponentPromotionStep::from_words)
+    }
+
+    /// A measurement row.
+    pub fn measurement(&self, number: usize) -> Option<ActiveComponentMeasurementStep> {
+        row(self.measurements, MEASUREMENT_WORDS, number)
+            .map(ActiveComponentMeasurementStep::from_words)
+    }
+
+    /// The part of the merge list that a row names; empty if it runs past the end.
+    pub fn sources(&self, merge_offset: usize, merge_count: usize) -> &[u64] {
+        merge_offset
+            .checked_add(merge_count)
+            .and_then(|end| self.merges.get(merge_offset..end))
+            .unwrap_or(&[])
+    }
+
+    /// The members of each component that lives at the end.
+    pub fn groups(&self) -> Groups<'_> {
+        Groups { left: self.groups }
+    }
+}
+
+/// The groups of a plan, one after the other.
+#[derive(Clone, Debug)]
+pub struct Groups<'a> {
+    left: &'a [u64],
+}
+
+impl<'a> Iterator for Groups<'a> {
+    type Item = &'a [u64];
+
+    /// A count of 0, or the end of the buffer, ends the groups.
+    fn next(&mut self) -> Option<&'a [u64]> {
+        let (&count, rest) = self.left.split_first()?;
+        if count == 0 || count > rest.len() as u64 {
+            return None;
+        }
+        let (members, left) = rest.split_at(count as usize);
+        self.left = left;
+        Some(members)
+    }
+}
+
+/// The scalar fields of a plan.
+#[derive(Clone, Copy, Debug, Default, PartialEq)]
+pub struct Summary {
+    /// Whether the split pays.
+    pub selected: bool,
+    /// The components at the start.
+    pub initial_components: usize,
+    /// All components ever made.
+    pub component_count: usize,
+    /// The work of one wide register.
+    pub estimated_dense_work: f64,
+    /// The work of the components.
+    pub estimated_component_work: f64,
+    /// The dimension of one wide register.
+    pub dense_peak_dimension: usize,
+    /// The greatest sum of the live components' dimensions.
+    pub component_peak_live_dimension: usize,
+    /// The sum of all components' greatest dimensions, at most 2^64 - 1.
+    pub component_allocated_dimension: usize,
+}
+
+impl Summary {
+    /// The fields from words 1 to 8 of a result.
+    fn from_result(result: &[u64; RESULT_WORDS]) -> Self {
+        let mut words = Words::new(&result[1..]);
+        Self {
+            selected: words.flag(),
+            initial_components: words.size(),
+            component_count: words.size(),
+            estimated_dense_work: words.float(),
+            estimated_component_work: words.float(),
+            dense_peak_dimension: words.size(),
+            component_peak_live_dimension: words.size(),
+            component_allocated_dimension: words.size(),
+        }
+    }
+}
+
+extern "C" {
+    /// The one function of the library, as include/midvokt.h declares it.
+    fn midvokt_plan(
+        initial_k: u64,
+        max_k: u64,
+        nexpvals: u64,
+        records: *const u64,
+        records_len: usize,
+        steps: *mut u64,
+        steps_len: usize,
+        merges: *mut u64,
+        merges_len: usize,
+        sizes: *mut u64,
+        sizes_len: usize,
+        rotations: *mut u64,
+        rotations_len: usize,
+        promotions: *mut u64,
+        promotions_len: usize,
+        measurements: *mut u64,
+        measurements_len: usize,
+        groups: *mut u64,
+        groups_len: usize,
+        result: *mut u64,
+        result_len: usize,
+    ) -> u64;
+}
+
+/// The library's own call: 0 for a plan, else the refusal's number, with every word of
+/// the buffers and of the result written. A short result gets its first words, and words
+/// behind the ninth are zero.
+pub fn plan_words(
+    head: &Head,
+    records: &[u64],
+    buffers: &mut Buffers<'_>,
+    result: &mut [u64],
+) -> u64 {
+    // SAFETY: slices are aligned and never null, exclusive ones overlap nothing, and the
+    // library reads and writes only below the lengths given with them.
+    unsafe {
+        midvokt_plan(
+            head.initial_k,
+            head.max_k,
+            head.nexpvals,
+            records.as_ptr(),
+            records.len(),
+            buffers.steps.as_mut_ptr(),
+            buffers.steps.len(),
+            buffers.merges.as_mut_ptr(),
+            buffers.merges.len(),
+            buffers.sizes.as_mut_ptr(),
+            buffers.sizes.len(),
+            buffers.rotations.as_mut_ptr(),
+            buffers.rotations.len(),
+            buffers.promotions.as_mut_ptr(),
+            buffers.promotions.len(),
+            buffers.measurements.as_mut_ptr(),
+            buffers.measurements.len(),
+            buffers.groups.as_mut_ptr(),
+            buffers.groups.len(),
+            result.as_mut_ptr(),
+            result.len(),
+        )
+    }
+}
+
+/// Plans record words into lent buffers. Nothing is allocated.
+pub fn plan_into(
+    head: &Head,
+    records: &[u64],
+    buffers: &mut Buffers<'_>,
+) -> Result<Summary, Refusal> {
+    let mut result = [0; RESULT_WORDS];
+    match plan_words(head, records, buffers, &mut result) {
+        0 => Ok(Summary::from_result(&result)),
+        number => Err(Refusal {
+            number,
+            index: result[0] as usize,
+        }),
+    }
+}

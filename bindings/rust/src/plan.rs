@@ -1,0 +1,282 @@
+//! A plan as typed values: its steps, rows and scalar fields, with the field names of the
+//! Rust simulator, and the call that makes one from records.
+
+use crate::call::{plan_into, Buffers, Head, Lengths, Summary};
+use crate::kernels::{
+    PrecomputedActivePauliMeasurementKernel, PrecomputedActivePauliRotationKernel,
+};
+use crate::record::{encode, Record, MOST_RECORDS, RECORD_WORDS};
+use crate::refusal::Refusal;
+use crate::words::Words;
+
+/// Words of a step.
+pub const STEP_WORDS: usize = 2;
+/// Words of a rotation row.
+pub const ROTATION_WORDS: usize = 21;
+/// Words of a measurement row.
+pub const MEASUREMENT_WORDS: usize = 19;
+
+/// What becomes of a record.
+#[derive(Clone, Copy, Debug, Default, PartialEq, Eq)]
+pub enum ActiveComponentStepKind {
+    /// Nothing that concerns components.
+    #[default]
+    None,
+    /// A rotation with no active coordinate left: a global phase.
+    IgnoredGlobalPhase,
+    /// A rotation of one component.
+    Rotation,
+    /// A new component.
+    Promotion,
+    /// A measurement on one component.
+    Measurement,
+}
+
+impl ActiveComponentStepKind {
+    /// The kind that a step's first word stands for.
+    fn from_word(word: u64) -> Self {
+        match word {
+            0 => Self::None,
+            1 => Self::IgnoredGlobalPhase,
+            2 => Self::Rotation,
+            3 => Self::Promotion,
+            4 => Self::Measurement,
+            _ => unreachable!("the library writes kinds 0 to 4"),
+        }
+    }
+}
+
+/// A record's step: its kind, and its row among the rows of that kind.
+#[derive(Clone, Copy, Debug, Default, PartialEq, Eq)]
+pub struct ActiveComponentStepRef {
+    /// What becomes of the record.
+    pub kind: ActiveComponentStepKind,
+    /// The row's number among the rows of its kind; 0 where there is none.
+    pub payload: usize,
+}
+
+impl ActiveComponentStepRef {
+    /// A step from its two words.
+    pub(crate) fn from_words(row: &[u64]) -> Self {
+        Self {
+            kind: ActiveComponentStepKind::from_word(row[0]),
+            payload: row[1] as usize,
+        }
+    }
+}
+
+/// A rotation of one component, after its sources are joined.
+#[derive(Clone, Copy, Debug, PartialEq)]
+pub struct ActiveComponentRotationStep {
+    /// The component that is rotated; the first of the sources.
+    pub component: usize,
+    /// Where the sources begin in the merge list.
+    pub merge_offset: usize,
+    /// How many sources there are.
+    pub merge_count: usize,
+    /// The rotation in the component's own bit order.
+    pub kernel: PrecomputedActivePauliRotationKernel,
+}
+
+impl ActiveComponentRotationStep {
+    /// A rotation row from its 21 words.
+    pub(crate) fn from_words(row: &[u64]) -> Self {
+        let mut words = Words::new(row);
+        Self {
+            component: words.size(),
+            merge_offset: words.size(),
+            merge_count: words.size(),
+            kernel: PrecomputedActivePauliRotationKernel::read(&mut words),
+        }
+    }
+}
+
+/// A new coordinate in a component of its own.
+#[derive(Clone, Copy, Debug, PartialEq, Eq)]
+pub struct ActiveComponentPromotionStep {
+    /// The new component.
+    pub component: usize,
+}
+
+impl ActiveComponentPromotionStep {
+    /// A promotion row from its one word.
+    pub(crate) fn from_words(row: &[u64]) -> Self {
+        Self {
+            component: row[0] as usize,
+        }
+    }
+}
+
+/// A measurement on one component, after its sources are joined.
+#[derive(Clone, Copy, Debug, PartialEq)]
+pub struct ActiveComponentMeasurementStep {
+    /// The component that is measured; the first of the sources.
+    pub component: usize,
+    /// Where the sources begin in the merge list.
+    pub merge_offset: usize,
+    /// How many sources there are.
+    pub merge_count: usize,
+    /// The measurement in the component's own bit order.
+    pub kernel: PrecomputedActivePauliMeasurementKernel,
+    /// Whether the component has no member left after it.
+    pub deactivate_after: bool,
+}
+
+impl ActiveComponentMeasurementStep {
+    /// A measurement row from its 19 words.
+    pub(crate) fn from_words(row: &[u64]) -> Self {
+        let mut words = Words::new(row);
+        Self {
+            component: words.size(),
+            merge_offset: words.size(),
+            merge_count: words.size(),
+            kernel: PrecomputedActivePauliMeasurementKernel::read(&mut words),
+            deactivate_after: words.flag(),
+        }
+    }
+}
+
+/// A whole plan.
+#[derive(Clone, Debug, Default, PartialEq)]
+pub struct ActiveComponentPlan {
+    /// Whether the split pays.
+    pub selected: bool,
+    /// The components at the start.
+    pub initial_components: usize,
+    /// All components ever made.
+    pub component_count: usize,
+    /// The longest size of each component, by its number.
+    pub component_max_k: Vec<usize>,
+    /// A step for each record; none where the records are left unread.
+    pub instruction_steps: Vec<ActiveComponentStepRef>,
+    /// The sources of all rows, one row's after the other's.
+    pub merge_components: Vec<usize>,
+    /// The rotation rows.
+    pub rotations: Vec<ActiveComponentRotationStep>,
+    /// The promotion rows.
+    pub promotions: Vec<ActiveComponentPromotionStep>,
+    /// The measurement rows.
+    pub measurements: Vec<ActiveComponentMeasurementStep>,
+    /// The work of one wide register.
+    pub estimated_dense_work: f64,
+    /// The work of the components.
+    pub estimated_component_work: f64,
+    /// The dimension of one wide register.
+    pub dense_peak_dimension: usize,
+    /// The greatest sum of the live components' dimensions.
+    pub component_peak_live_dimension: usize,
+    /// The sum of all components' greatest dimensions, at most 2^64 - 1.
+    pub component_allocated_dimension: usize,
+    /// The members of each component that lives at the end, in their order.
+    pub groups: Vec<Vec<usize>>,
+}
+
+impl ActiveComponentPlan {
+    /// The part of the merge list that a row names; empty if it runs past the end.
+    pub fn sources(&self, merge_offset: usize, merge_count: usize) -> &[usize] {
+        merge_offset
+            .checked_add(merge_count)
+            .and_then(|end| self.merge_components.get(merge_offset..end))
+            .unwrap_or(&[])
+    }
+}
+
+/// Seven buffers of just the lengths that so many records need.
+struct Owned {
+    words: [Vec<u64>; 7],
+}
+
+impl Owned {
+    /// Zeroed buffers for so many records.
+    fn for_records(records: usize) -> Self {
+        let lengths = Lengths::for_records(records);
+        let words = [
+            lengths.steps,
+            lengths.merges,
+            lengths.sizes,
+            lengths.rotations,
+            lengths.promotions,
+            lengths.measurements,
+            lengths.groups,
+        ];
+        Self {
+            words: words.map(|length| vec![0; length]),
+        }
+    }
+
+    /// The same, lent.
+    fn lend(&mut self) -> Buffers<'_> {
+        let [steps, merges, sizes, rotations, promotions, measurements, groups] = &mut self.words;
+        Buffers {
+            steps,
+            merges,
+            sizes,
+            rotations,
+            promotions,
+            measurements,
+            groups,
+        }
+    }
+}
+
+/// How many steps are of this kind, which is how many rows of it there are.
+fn count(steps: &[ActiveComponentStepRef], kind: ActiveComponentStepKind) -> usize {
+    steps.iter().filter(|step| step.kind == kind).count()
+}
+
+/// Words as sizes or numbers.
+fn sizes(words: &[u64]) -> Vec<usize> {
+    words.iter().map(|&word| word as usize).collect()
+}
+
+/// The typed plan that stands in the buffers, with a step for each of so many records.
+fn collect(summary: Summary, buffers: &Buffers<'_>, records: usize) -> ActiveComponentPlan {
+    use ActiveComponentStepKind::{Measurement, Promotion, Rotation};
+    let instruction_steps: Vec<_> = (0..records).filter_map(|i| buffers.step(i)).collect();
+    let rows = |kind| 0..count(&instruction_steps, kind);
+    let rotations: Vec<_> = rows(Rotation).filter_map(|i| buffers.rotation(i)).collect();
+    let promotions = rows(Promotion)
+        .filter_map(|i| buffers.promotion(i))
+        .collect();
+    let measurements: Vec<_> = rows(Measurement)
+        .filter_map(|i| buffers.measurement(i))
+        .collect();
+    let merged = rotations.iter().map(|row| row.merge_count).sum::<usize>()
+        + measurements
+            .iter()
+            .map(|row| row.merge_count)
+            .sum::<usize>();
+    ActiveComponentPlan {
+        selected: summary.selected,
+        initial_components: summary.initial_components,
+        component_count: summary.component_count,
+        component_max_k: sizes(&buffers.sizes[..summary.component_count]),
+        merge_components: sizes(&buffers.merges[..merged]),
+        instruction_steps,
+        rotations,
+        promotions,
+        measurements,
+        estimated_dense_work: summary.estimated_dense_work,
+        estimated_component_work: summary.estimated_component_work,
+        dense_peak_dimension: summary.dense_peak_dimension,
+        component_peak_live_dimension: summary.component_peak_live_dimension,
+        component_allocated_dimension: summary.component_allocated_dimension,
+        groups: buffers.groups().map(sizes).collect(),
+    }
+}
+
+/// Plans records given as words, eight a record, in buffers of its own.
+pub fn plan_encoded(head: &Head, records: &[u64]) -> Result<ActiveComponentPlan, Refusal> {
+    let whole = records.len() / RECORD_WORDS;
+    // More records are refused, or left unread, whatever the buffers.
+    let mut owned = Owned::for_records(whole.min(MOST_RECORDS));
+    let mut buffers = owned.lend();
+    let summary = plan_into(head, records, &mut buffers)?;
+    let read = if head.leaves_unread() { 0 } else { whole };
+    Ok(collect(summary, &buffers, read))
+}
+
+/// Plans records in buffers of its own.
+pub fn plan(head: &Head, records: &[Record]) -> Result<ActiveComponentPlan, Refusal> {
+    plan_encoded(head, &encode(records))
+}

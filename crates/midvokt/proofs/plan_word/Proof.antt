@@ -1,0 +1,76 @@
+-- `midvokt::plan_word` meets its contract: each arm of the match has its number, at which the list of words has that field; any other number is 0 or past the list.
+-- Assumes nothing.
+use mathlib.Core.Path.{_≡_, refl, sym}
+use Prim.Native.Nat.{ℕ, zero, suc, _≤_, _<_}
+use native.Mathlib.Omega.{arith}
+use lib.ListN.{getD, List·getD-eq-default}
+use borrow.Author.Needs.{needs}
+use Rattle.component_plan.specs.Answer.{outcomeOf}
+use Rattle.component_plan.specs.declared.ActiveComponentPlan.{ActiveComponentPlan}
+use Rattle.component_plan.specs.declared.Planned.the-variants as P
+use Rattle.midvokt.specs.Reply.{wordsOf}
+use Rattle.midvokt.proofs.plan_word.Statement.{statement}
+use Rattle.midvokt.proofs.plan_word.Tie as tie
+
+outside : (p : ActiveComponentPlan) (i : ℕ) → (0 < i → 9 ≤ i) → 0 ≡ getD (wordsOf (outcomeOf (P.Plan p))) i 0
+outside p zero h = refl
+outside p (suc i) h = sym (List·getD-eq-default (wordsOf (outcomeOf (P.Plan p))) 0 (h (omega arith)))
+
+past : (k i : ℕ) → k ≤ i → (i ≡ k → ⊥) → suc k ≤ i
+past k i h not = omega (arith, not)
+
+flag-word-requires : tie.Need-flag-word-requires
+flag-word-requires c κs = search needs
+
+float-bits-requires : tie.Need-float-bits-requires
+float-bits-requires c κs = search needs
+
+float-bits-requires-2 : tie.Need-float-bits-requires-2
+float-bits-requires-2 c κs = search needs
+
+returns : tie.Need-returns
+returns c = search needs
+
+returns-2 : tie.Need-returns-2
+returns-2 c = search needs
+
+returns-3 : tie.Need-returns-3
+returns-3 c = search needs
+
+returns-4 : tie.Need-returns-4
+returns-4 c = rw (c .before .match .keys4) (c .float-bits .ensures)
+
+returns-5 : tie.Need-returns-5
+returns-5 c = rw (c .before .match .keys5) (c .float-bits2 .ensures)
+
+returns-6 : tie.Need-returns-6
+returns-6 c = search needs
+
+returns-7 : tie.Need-returns-7
+returns-7 c = search needs
+
+returns-8 : tie.Need-returns-8
+returns-8 c = search needs
+
+returns-9 : tie.Need-returns-9
+returns-9 c =
+    let i = c .before .args .i in
+    let r = c .match .rest in
+    outside (c .before .args .plan) i (λ above. past 8 i (past 7 i (past 6 i (past 5 i (past 4 i (past 3 i (past 2 i (past 1 i above (r .0 .0 .0 .0 .0 .0 .0 .1)) (r .0 .0 .0 .0 .0 .0 .1)) (r .0 .0 .0 .0 .0 .1)) (r .0 .0 .0 .0 .1)) (r .0 .0 .0 .1)) (r .0 .0 .1)) (r .0 .1)) (r .1))
+
+pub plan-word-spec : {M : Type 1} → statement M
+plan-word-spec =
+    tie.close
+    (tie.spec
+    flag-word-requires
+    float-bits-requires
+    float-bits-requires-2
+    returns
+    returns-2
+    returns-3
+    returns-4
+    returns-5
+    returns-6
+    returns-7
+    returns-8
+    returns-9)

@@ -1,0 +1,201 @@
+/*
+ * The C interface of Midvokt: one call that plans how a quantum-circuit simulator cuts one
+ * wide register into small independent ones. Link libmidvokt.a. C99 and C++11.
+ *
+ * The library is proved, for every input, to give the plan or the first refusal of its
+ * definition, and to write every word of the lent buffers. What stands on this side of the
+ * call is not proved and is trusted to the caller:
+ *
+ *   - each pointer is not null and is aligned for uint64_t, also where its length is 0;
+ *   - each pointer has as many words behind it as its length says;
+ *   - the seven outputs and the result overlap neither each other nor the records.
+ *
+ * All lengths are in words of 64 bits. The call keeps no memory and no state between calls,
+ * allocates nothing, and may run in several threads at once, each with buffers of its own.
+ */
+#ifndef MIDVOKT_H
+#define MIDVOKT_H
+
+#include <stddef.h>
+#include <stdint.h>
+
+#ifdef __cplusplus
+extern "C" {
+#endif
+
+/* ---- Records: eight words each ------------------------------------------------------ */
+
+/* Words of a record, and the most records of a program. */
+#define MIDVOKT_RECORD_WORDS 8
+#define MIDVOKT_MOST_RECORDS 1024
+
+/* The kind, word 0 of a record. */
+enum midvokt_kind {
+    MIDVOKT_KIND_ROTATION = 0,
+    MIDVOKT_KIND_PROMOTION = 1,           /* only the kind is read */
+    MIDVOKT_KIND_RECORD_MEASUREMENT = 2,  /* only the kind is read */
+    MIDVOKT_KIND_RECORD_DETECTOR = 3,     /* only the kind is read */
+    MIDVOKT_KIND_ACTIVE_MEASUREMENT = 4,
+    MIDVOKT_KIND_DORMANT_BRANCH = 5       /* only the kind is read */
+};
+
+/* The words of a record. A measurement's last word is unread; with flag 1 its width, masks,
+ * phase and pivot are unread too. Mask bits at or above the width count for nothing. */
+enum midvokt_record_word {
+    MIDVOKT_RECORD_KIND = 0,
+    MIDVOKT_RECORD_WIDTH = 1,       /* the number of active coordinates */
+    MIDVOKT_RECORD_X = 2,           /* mask by active position */
+    MIDVOKT_RECORD_Z = 3,           /* mask by active position */
+    MIDVOKT_RECORD_PHASE = 4,       /* exponent of i, 0 to 3 */
+    MIDVOKT_RECORD_ANGLE = 5,       /* of a rotation, bits of a double */
+    MIDVOKT_RECORD_SINE = 6,        /* of a rotation, bits of a double */
+    MIDVOKT_RECORD_COSINE = 7,      /* of a rotation, bits of a double */
+    MIDVOKT_RECORD_PIVOT = 5,       /* of a measurement, an active position */
+    MIDVOKT_RECORD_EXPECTATION = 6  /* of a measurement, a flag: 0 or 1 */
+};
+
+/* ---- Buffers: how many words are enough for n records -------------------------------- */
+
+#define MIDVOKT_STEPS_WORDS(n) ((size_t)2 * (n))
+#define MIDVOKT_MERGES_WORDS(n) ((size_t)(n) + 512)
+#define MIDVOKT_SIZES_WORDS(n) ((size_t)512 + 0 * (n))
+#define MIDVOKT_ROTATIONS_WORDS(n) ((size_t)21 * (n))
+#define MIDVOKT_PROMOTIONS_WORDS(n) ((size_t)(n))
+#define MIDVOKT_MEASUREMENTS_WORDS(n) ((size_t)19 * (n))
+#define MIDVOKT_GROUPS_WORDS(n) ((size_t)1024 + 0 * (n))
+#define MIDVOKT_RESULT_WORDS 9
+
+/* ---- Outputs. Words behind the used ones are zero; after a refusal all are ----------- */
+
+/* Steps: two words for each record. */
+enum midvokt_step_word {
+    MIDVOKT_STEP_KIND = 0,
+    MIDVOKT_STEP_PAYLOAD = 1, /* the row's number among the rows of its kind, else 0 */
+    MIDVOKT_STEP_WORDS = 2
+};
+
+/* The kind of a step. */
+enum midvokt_step_kind {
+    MIDVOKT_STEP_NONE = 0,
+    MIDVOKT_STEP_IGNORED_GLOBAL_PHASE = 1,
+    MIDVOKT_STEP_ROTATION = 2,
+    MIDVOKT_STEP_PROMOTION = 3,
+    MIDVOKT_STEP_MEASUREMENT = 4
+};
+
+/* Merges: the sources of all rows, one row's after the other's. A row's part begins at its
+ * merge offset and has merge count words: first the component that the others join, then
+ * the others by ascending number. */
+
+/* Sizes: the longest size of each component, by its number. */
+
+/* The first eleven words of a rotation row and of a measurement row. Local bit j belongs to
+ * the component's member j. A complex number is two words, real part first. */
+enum midvokt_row_word {
+    MIDVOKT_ROW_COMPONENT = 0,
+    MIDVOKT_ROW_MERGE_OFFSET = 1,
+    MIDVOKT_ROW_MERGE_COUNT = 2,
+    MIDVOKT_ROW_WIDTH = 3,      /* the component's size, before a removal */
+    MIDVOKT_ROW_X = 4,          /* local mask */
+    MIDVOKT_ROW_Z = 5,          /* local mask */
+    MIDVOKT_ROW_EVEN_PHASE = 6, /* complex, words 6 and 7 */
+    MIDVOKT_ROW_ODD_PHASE = 8,  /* complex, words 8 and 9 */
+    MIDVOKT_ROW_OVERLAP = 10    /* flag: the masks share an odd number of bits */
+};
+
+/* Rotation rows: 21 words. */
+enum midvokt_rotation_word {
+    MIDVOKT_ROTATION_DIAGONAL = 11,    /* flag: x is 0 */
+    MIDVOKT_ROTATION_UNIFORM = 12,     /* flag: x is not 0, z is 0 */
+    MIDVOKT_ROTATION_FLIP = 13,        /* flag: real pairs with opposite signs */
+    MIDVOKT_ROTATION_PAIR_BIT = 14,    /* the highest bit of x */
+    MIDVOKT_ROTATION_PAIR_COUNT = 15,  /* half the component's dimension */
+    MIDVOKT_ROTATION_ANGLE = 16,       /* bits of a double, as the record has them */
+    MIDVOKT_ROTATION_COSINE = 17,      /* the same */
+    MIDVOKT_ROTATION_SINE = 18,        /* the same */
+    MIDVOKT_ROTATION_COEFFICIENT = 19, /* complex, words 19 and 20 */
+    MIDVOKT_ROTATION_WORDS = 21
+};
+
+/* Promotion rows: one word, the new component. */
+
+/* Measurement rows: 19 words. */
+enum midvokt_measurement_word {
+    MIDVOKT_MEASUREMENT_PIVOT = 11,           /* local position of the member that leaves */
+    MIDVOKT_MEASUREMENT_DIAGONAL = 12,        /* flag: x is 0 */
+    MIDVOKT_MEASUREMENT_PHASE_BIT = 13,       /* 1 where diagonal with phase exponent 2 */
+    MIDVOKT_MEASUREMENT_Z_WITHOUT_PIVOT = 14, /* local mask where diagonal, else 0 */
+    MIDVOKT_MEASUREMENT_OUT_DIMENSION = 15,   /* half the component's dimension */
+    MIDVOKT_MEASUREMENT_COEFFICIENT = 16,     /* complex, words 16 and 17 */
+    MIDVOKT_MEASUREMENT_DEACTIVATED = 18,     /* flag: no member is left */
+    MIDVOKT_MEASUREMENT_WORDS = 19
+};
+
+/* Groups: for each component that lives at the end, a member count and then its members in
+ * order. A count of 0, or the end of the buffer, ends them. */
+
+/* The result. After a refusal words 1 to 8 are 0. A shorter result gets its first words, and
+ * words behind the ninth are zero. */
+enum midvokt_result_word {
+    MIDVOKT_RESULT_INDEX = 0,              /* the refused record; 0 for a plan */
+    MIDVOKT_RESULT_SELECTED = 1,           /* flag: the split pays */
+    MIDVOKT_RESULT_INITIAL_COMPONENTS = 2,
+    MIDVOKT_RESULT_COMPONENT_COUNT = 3,    /* all components ever made */
+    MIDVOKT_RESULT_DENSE_WORK = 4,         /* bits of a double */
+    MIDVOKT_RESULT_COMPONENT_WORK = 5,     /* bits of a double */
+    MIDVOKT_RESULT_DENSE_PEAK = 6,         /* 2 to the power of max_k */
+    MIDVOKT_RESULT_PEAK = 7,               /* the greatest sum of live dimensions */
+    MIDVOKT_RESULT_ALLOCATED = 8           /* the sum of greatest dimensions, at most 2^64 - 1 */
+};
+
+/* ---- The number that the call returns ------------------------------------------------ */
+
+enum midvokt_number {
+    MIDVOKT_PLANNED = 0,                     /* there is a plan */
+    /* the head and the buffers; the index is 0 */
+    MIDVOKT_REFUSED_MAX_K = 1,               /* max_k is 62 or more */
+    MIDVOKT_REFUSED_RECORD_WORDS = 2,        /* no multiple of 8, or more than 8,192 */
+    MIDVOKT_REFUSED_BUFFERS = 3,             /* a buffer is too short */
+    MIDVOKT_REFUSED_INITIAL_K = 4,           /* initial_k is more than 512 */
+    /* all records are checked for these before the first is planned */
+    MIDVOKT_REFUSED_KIND = 5,                /* the kind is more than 5 */
+    MIDVOKT_REFUSED_WIDTH = 6,               /* the width is more than 62 */
+    MIDVOKT_REFUSED_PHASE = 7,               /* the phase exponent is more than 3 */
+    MIDVOKT_REFUSED_FLOATS = 8,              /* angle not finite, sine or cosine not in -1 to 1 */
+    MIDVOKT_REFUSED_FLAG = 9,                /* the expectation flag is more than 1 */
+    MIDVOKT_REFUSED_PROMOTION = 10,          /* it would make the 513th coordinate */
+    /* then the first record decides at which planning stops */
+    MIDVOKT_REFUSED_ROTATION_WIDTH = 11,     /* not the number of active coordinates */
+    MIDVOKT_REFUSED_MEASUREMENT_WIDTH = 12,  /* not the number of active coordinates */
+    MIDVOKT_REFUSED_NOTHING_ACTIVE = 13,     /* a measurement with no active coordinate */
+    MIDVOKT_REFUSED_COMPONENT_SIZE = 14,     /* a join makes a component of 62 */
+    MIDVOKT_REFUSED_PIVOT = 15,              /* the pivot is not an active position */
+    MIDVOKT_REFUSED_PIVOT_COMPONENT = 16,    /* its coordinate is in another component */
+    MIDVOKT_REFUSED_PIVOT_X = 17,            /* local x is not 0, no x bit at the pivot */
+    MIDVOKT_REFUSED_PIVOT_Z = 18,            /* local x is 0, z is not, no z bit at the pivot */
+    MIDVOKT_REFUSED_EIGENVALUES = 19,        /* local x is 0, z is not, exponent 1 or 3 */
+    MIDVOKT_REFUSED_IDENTITY = 20            /* local x and z are both 0 */
+};
+
+/*
+ * Plans the records. Returns MIDVOKT_PLANNED, or the number of the first refusal.
+ *
+ * Where max_k is below 8 or nexpvals is not 0, and max_k is below 62, there is a plan with
+ * records, initial_k and buffers unread: not selected, and all outputs zero.
+ */
+uint64_t midvokt_plan(uint64_t initial_k, uint64_t max_k, uint64_t nexpvals,
+                      const uint64_t *records, size_t records_len,
+                      uint64_t *steps, size_t steps_len,
+                      uint64_t *merges, size_t merges_len,
+                      uint64_t *sizes, size_t sizes_len,
+                      uint64_t *rotations, size_t rotations_len,
+                      uint64_t *promotions, size_t promotions_len,
+                      uint64_t *measurements, size_t measurements_len,
+                      uint64_t *groups, size_t groups_len,
+                      uint64_t *result, size_t result_len);
+
+#ifdef __cplusplus
+}
+#endif
+
+#endif

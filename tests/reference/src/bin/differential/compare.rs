@@ -1,0 +1,169 @@
+//! One program through both: what the Rust expects, what the library gives.
+
+use midvokt::{Head, plan_encoded};
+use midvokt_reference::answer::{Answer, answer};
+use midvokt_reference::expected::{Expected, RESULT_WORDS};
+use midvokt_reference::generator::Numbers;
+use midvokt_reference::input::{BUFFERS, Program, RECORD_WORDS};
+use midvokt_reference::refusals::least_lengths;
+
+use crate::dropin;
+use crate::memory::Memory;
+use crate::tally::Tally;
+
+/// The refusal that depends on the buffers' lengths.
+const SHORT_BUFFERS: u64 = 3;
+
+/// A thread's memory and what it has counted.
+pub struct Comparison {
+    memory: Memory,
+    random: Numbers,
+    spoiled: Option<u64>,
+    pub tally: Tally,
+}
+
+/// Changes one bit of one expected word, which ones by the program's number.
+fn spoil(expected: &mut Expected, index: u64) {
+    let Expected {
+        number,
+        result,
+        outputs,
+    } = expected;
+    let mut words: Vec<&mut u64> = std::iter::once(number)
+        .chain(result)
+        .chain(outputs.iter_mut().flatten())
+        .collect();
+    let place = index as usize % words.len();
+    *words[place] ^= 1 << (index % 64);
+}
+
+/// The first place where a buffer is not the used words with zeros behind them.
+fn difference(name: &str, found: &[u64], used: &[u64]) -> Option<String> {
+    let wanted = used.iter().copied().chain(std::iter::repeat(0));
+    let place = found
+        .iter()
+        .zip(wanted.clone())
+        .position(|(&found, wanted)| found != wanted)?;
+    Some(format!(
+        "{name}, word {place}: expected {:#x}, found {:#x}",
+        wanted.clone().nth(place).unwrap_or(0),
+        found[place]
+    ))
+}
+
+impl Comparison {
+    /// Nothing compared yet; the program of this number gets a wrong expectation.
+    pub fn new(spoiled: Option<u64>) -> Self {
+        Self {
+            memory: Memory::default(),
+            random: Numbers::new(0, 0),
+            spoiled,
+            tally: Tally::default(),
+        }
+    }
+
+    /// What differs after a call with these lengths.
+    fn call(
+        &mut self,
+        program: &Program,
+        expected: &Expected,
+        lengths: [u64; 7],
+        result: usize,
+    ) -> Option<String> {
+        let words = (&head(program), &program.words[..]);
+        let number = self.memory.call(words, lengths, result, &mut self.random);
+        self.tally.calls += 1;
+        if number != expected.number {
+            return Some(format!(
+                "number: expected {}, found {number}",
+                expected.number
+            ));
+        }
+        if let Some(place) = self.memory.overrun() {
+            let name = BUFFERS.get(place).unwrap_or(&"result");
+            return Some(format!("a word beside {name} is written"));
+        }
+        let used = &expected.result[..result.min(RESULT_WORDS)];
+        difference("result", self.memory.result(), used).or_else(|| {
+            (0..BUFFERS.len()).find_map(|place| {
+                let used = &expected.outputs[place];
+                difference(BUFFERS[place], self.memory.output(place), used)
+            })
+        })
+    }
+
+    /// Two calls: with the program's own lengths, or just long enough ones, and a whole
+    /// result; then, for some programs, with longer buffers and a result of another length.
+    fn calls(&mut self, program: &Program, expected: &Expected) -> Option<([u64; 7], String)> {
+        let least = least_lengths((program.words.len() / RECORD_WORDS) as u64);
+        let lengths = program.lengths.unwrap_or(least);
+        if let Some(found) = self.call(program, expected, lengths, RESULT_WORDS) {
+            return Some((lengths, found));
+        }
+        if self.random.chance(60) {
+            return None;
+        }
+        let more = self.random.pick(&[0, 3, 300]);
+        let longer = match program.lengths {
+            Some(lengths) => lengths,
+            None => least.map(|length| length + self.random.between(0, more)),
+        };
+        let result = self.random.below(2 * RESULT_WORDS as u64) as usize;
+        let found = self.call(program, expected, longer, result)?;
+        Some((longer, format!("{found} (result of {result} words)")))
+    }
+
+    /// What differs in the typed plan, where it does not depend on the lent lengths.
+    fn typed(&mut self, program: &Program, answer: &Answer, expected: &Expected) -> Option<String> {
+        if expected.number == SHORT_BUFFERS {
+            return None;
+        }
+        self.tally.typed += 1;
+        match (plan_encoded(&head(program), &program.words), answer) {
+            (Ok(ours), Answer::Plan(theirs)) => dropin::difference(&ours, theirs),
+            (Err(ours), Answer::Refused(theirs)) => {
+                let same = (ours.number, ours.index) == (theirs.number, theirs.index);
+                (!same).then(|| format!("the typed call gives {ours:?}"))
+            }
+            (ours, _) => Some(format!("the typed call gives {:?}", ours.map(|_| "a plan"))),
+        }
+    }
+
+    /// Compares one program. An error is something that was not foreseen.
+    pub fn compare(&mut self, index: u64, program: &Program) -> Result<(), String> {
+        // The same lengths and noise for a program, whichever thread compares it.
+        self.random = Numbers::new(index, 0);
+        let answer = answer(program)?;
+        let Some(mut expected) = Expected::of(&answer)? else {
+            self.tally.incomparable += 1;
+            return Ok(());
+        };
+        self.tally.count(program, &expected);
+        let typed = self.typed(program, &answer, &expected);
+        if self.spoiled == Some(index) {
+            spoil(&mut expected, index);
+        }
+        let mut shown = program.clone();
+        let found = match self.calls(program, &expected) {
+            Some((lengths, found)) => {
+                shown.lengths = Some(lengths);
+                Some(found)
+            }
+            None => typed,
+        };
+        if let Some(found) = found {
+            self.tally
+                .differ(index, format!("{found}\n{}", shown.text()));
+        }
+        Ok(())
+    }
+}
+
+/// The program's head for the library.
+fn head(program: &Program) -> Head {
+    Head {
+        initial_k: program.initial_k,
+        max_k: program.max_k,
+        nexpvals: program.nexpvals,
+    }
+}

@@ -1,0 +1,149 @@
+//! What was counted, and the first difference.
+
+use midvokt_reference::expected::Expected;
+use midvokt_reference::input::Program;
+
+/// Refusals have numbers up to this one.
+const LAST_REFUSAL: usize = 20;
+
+/// What plans have reached, each with the number of plans that did.
+const REACHED: [&str; 9] = [
+    "100 records or more",
+    "1,024 records",
+    "more than 62 coordinates at the end",
+    "none at the end, after some",
+    "a component of 30 members or more",
+    "two such components or more at the end",
+    "a component of 61 members",
+    "a row of ten sources or more",
+    "2^64 - 1 allocated",
+];
+
+#[derive(Default)]
+pub struct Tally {
+    /// Place 0 counts plans, the others refusals.
+    answers: [u64; LAST_REFUSAL + 1],
+    selected: u64,
+    reached: [u64; REACHED.len()],
+    pub incomparable: u64,
+    pub calls: u64,
+    pub typed: u64,
+    differences: u64,
+    first: Option<(u64, String)>,
+}
+
+/// The member counts of a plan's groups.
+fn group_sizes(mut words: &[u64]) -> Vec<u64> {
+    let mut sizes = Vec::new();
+    while let Some((&size, rest)) = words.split_first() {
+        sizes.push(size);
+        words = &rest[size as usize..];
+    }
+    sizes
+}
+
+/// The greatest number of sources that a row names.
+fn most_sources(expected: &Expected) -> u64 {
+    let rotations = expected.outputs[3].chunks_exact(21);
+    let measurements = expected.outputs[5].chunks_exact(19);
+    rotations
+        .chain(measurements)
+        .map(|row| row[2])
+        .max()
+        .unwrap_or(0)
+}
+
+impl Tally {
+    /// Counts a program with its answer.
+    pub fn count(&mut self, program: &Program, expected: &Expected) {
+        self.answers[expected.number as usize] += 1;
+        if expected.number != 0 {
+            return;
+        }
+        self.selected += expected.result[1];
+        let sizes = group_sizes(&expected.outputs[6]);
+        let longest = expected.outputs[2].iter().max().copied().unwrap_or(0);
+        let reached = [
+            expected.outputs[0].len() >= 2 * 100,
+            expected.outputs[0].len() == 2 * 1024,
+            sizes.iter().sum::<u64>() > 62,
+            sizes.is_empty() && expected.result[3] > 0 && !program.words.is_empty(),
+            longest >= 30,
+            sizes.iter().filter(|&&size| size >= 30).count() >= 2,
+            longest == 61,
+            most_sources(expected) >= 10,
+            expected.result[8] == u64::MAX,
+        ];
+        for (count, reached) in self.reached.iter_mut().zip(reached) {
+            *count += u64::from(reached);
+        }
+    }
+
+    /// Notes a difference; the one of the smallest number is told.
+    pub fn differ(&mut self, index: u64, text: String) {
+        self.differences += 1;
+        if self.first.as_ref().is_none_or(|(first, _)| index < *first) {
+            self.first = Some((index, text));
+        }
+    }
+
+    /// Adds what another thread has counted.
+    pub fn add(&mut self, other: Self) {
+        let add = |mine: &mut [u64], theirs: &[u64]| {
+            mine.iter_mut()
+                .zip(theirs)
+                .for_each(|(mine, theirs)| *mine += theirs);
+        };
+        add(&mut self.answers, &other.answers);
+        add(&mut self.reached, &other.reached);
+        self.selected += other.selected;
+        self.incomparable += other.incomparable;
+        self.calls += other.calls;
+        self.typed += other.typed;
+        let before = self.differences + other.differences;
+        if let Some((index, text)) = other.first {
+            self.differ(index, text);
+        }
+        self.differences = before;
+    }
+
+    /// The refusals that never occurred.
+    fn missing(&self) -> Vec<String> {
+        let never = |&number: &usize| self.answers[number] == 0;
+        (1..=LAST_REFUSAL)
+            .filter(never)
+            .map(|number| number.to_string())
+            .collect()
+    }
+
+    /// Whether nothing differs and every refusal occurred.
+    pub fn is_good(&self) -> bool {
+        self.differences == 0 && self.missing().is_empty()
+    }
+
+    /// The report.
+    pub fn text(&self) -> String {
+        let mut lines = vec![
+            format!(
+                "plans {}, of them selected {}",
+                self.answers[0], self.selected
+            ),
+            format!("incomparable {}", self.incomparable),
+        ];
+        lines.extend((1..=LAST_REFUSAL).map(|n| format!("refused {n}: {}", self.answers[n])));
+        let reached = REACHED.iter().zip(self.reached);
+        lines.extend(reached.map(|(name, count)| format!("plans with {name}: {count}")));
+        lines.push(format!(
+            "calls compared {}, typed calls {}",
+            self.calls, self.typed
+        ));
+        if !self.missing().is_empty() {
+            lines.push(format!("never refused: {}", self.missing().join(", ")));
+        }
+        if let Some((index, text)) = &self.first {
+            lines.push(format!("program {index} differs: {text}"));
+        }
+        lines.push(format!("differences {}", self.differences));
+        lines.join("\n")
+    }
+}

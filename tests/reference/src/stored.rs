@@ -1,0 +1,28 @@
+//! The stored programs: 01's circuits, further circuits, and edges.
+
+use crate::input::{Program, is_skipped};
+
+const TEXTS: [&str; 3] = [
+    include_str!("../circuits.txt"),
+    include_str!("../further.txt"),
+    include_str!("../edges.txt"),
+];
+
+/// The programs of a text, one a line.
+fn programs_of(text: &str) -> Result<Vec<Program>, String> {
+    text.lines()
+        .filter(|line| !is_skipped(line))
+        .map(Program::parse)
+        .collect()
+}
+
+/// 01's own circuits.
+pub fn circuits() -> Result<Vec<Program>, String> {
+    programs_of(TEXTS[0])
+}
+
+/// All stored programs.
+pub fn programs() -> Result<Vec<Program>, String> {
+    let all: Result<Vec<_>, String> = TEXTS.iter().map(|text| programs_of(text)).collect();
+    Ok(all?.concat())
+}
