@@ -88,9 +88,9 @@ fn row(words: &[u64], size: usize, number: usize) -> Option<&[u64]> {
 }
 
 impl Buffers<'_> {
-    /// The step of a record.
+    /// The step of a record; none past the end, and none where no planning wrote.
     pub fn step(&self, record: usize) -> Option<ActiveComponentStepRef> {
-        row(self.steps, STEP_WORDS, record).map(ActiveComponentStepRef::from_words)
+        row(self.steps, STEP_WORDS, record).and_then(ActiveComponentStepRef::from_words)
     }
 
     /// A rotation row.

@@ -33,15 +33,15 @@ pub enum ActiveComponentStepKind {
 }
 
 impl ActiveComponentStepKind {
-    /// The kind that a step's first word stands for.
-    fn from_word(word: u64) -> Self {
+    /// The kind that a step's first word stands for; planning writes no other.
+    fn from_word(word: u64) -> Option<Self> {
         match word {
-            0 => Self::None,
-            1 => Self::IgnoredGlobalPhase,
-            2 => Self::Rotation,
-            3 => Self::Promotion,
-            4 => Self::Measurement,
-            _ => unreachable!("the library writes kinds 0 to 4"),
+            0 => Some(Self::None),
+            1 => Some(Self::IgnoredGlobalPhase),
+            2 => Some(Self::Rotation),
+            3 => Some(Self::Promotion),
+            4 => Some(Self::Measurement),
+            _ => None,
         }
     }
 }
@@ -56,12 +56,12 @@ pub struct ActiveComponentStepRef {
 }
 
 impl ActiveComponentStepRef {
-    /// A step from its two words.
-    pub(crate) fn from_words(row: &[u64]) -> Self {
-        Self {
-            kind: ActiveComponentStepKind::from_word(row[0]),
+    /// A step from its two words, if the first is a kind.
+    pub(crate) fn from_words(row: &[u64]) -> Option<Self> {
+        Some(Self {
+            kind: ActiveComponentStepKind::from_word(row[0])?,
             payload: row[1] as usize,
-        }
+        })
     }
 }
 

@@ -215,3 +215,11 @@ fn a_full_program_fits_a_small_stack() {
         .unwrap();
     assert_eq!(planned, Ok(61));
 }
+
+#[test]
+fn words_that_no_planning_wrote_are_no_step() {
+    let mut noise = Noise::of(Lengths::for_records(1));
+    let (buffers, _) = noise.lend();
+    assert_eq!(buffers.step(0), None);
+    assert_eq!(buffers.step(1), None);
+}
