@@ -15,7 +15,8 @@ use Rattle.definition.proofs.Padded.{Pads, connected-padded}
 use Rattle.walk.specs.Walking.{Buffers, lengthsOf}
 use Rattle.component_plan.specs.declared.ActiveComponentPlan.{ActiveComponentPlan}
 use Rattle.component_plan.specs.declared.Planned.the-variants as P
-use Rattle.component_plan.specs.Answer.{outcomeOf, outcomeIn, Held, Answers}
+use Rattle.lent.specs.Lent.{Held}
+use Rattle.component_plan.specs.Answer.{outcomeOf, outcomeIn, Answers}
 use Rattle.component_plan.specs.Demand.{planIn}
 
 -- an answer that is a plan is the definition's plan: its fields, and its words followed by zeros

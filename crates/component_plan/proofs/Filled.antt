@@ -15,7 +15,7 @@ use Rattle.definition.proofs.Growth.{run-rotations, run-measurements, start-wid
 use Rattle.definition.proofs.Room.{longest-count, steps-count, rows-most}
 use Rattle.walk.specs.declared.Summary.{Summary}
 use Rattle.walk.specs.Walking.{Buffers, Begins, Ended, SameLengths}
-use Rattle.component_plan.specs.Answer.{Held, RestCleared, UsedFit, clearedFrom}
+use Rattle.lent.specs.Lent.{Held, RestCleared, UsedFit, clearedFrom}
 
 -- one buffer of m words: ws stand in front, n of them, and what follows is zeroed
 pub cleared-is-padded : (m n : ℕ) (ws walked after : List ℕ) → length walked ≡ m → n ≡ length ws → Begins ws walked → after ≡ clearedFrom n walked

@@ -26,7 +26,8 @@ use Rattle.walk.specs.declared.Summary.{Summary}
 use Rattle.walk.specs.declared.Walked as Declared
 use Rattle.walk.specs.declared.Walked.the-variants as W
 use Rattle.walk.specs.Walking.{Buffers, lengthsOf, Ended, WalkEnds, SameLengths}
-use Rattle.component_plan.specs.Answer.{accepted, turnedAway, outcomeOf, outcomeIn, Held, Answers, ReadAnswers, lentNumber}
+use Rattle.lent.specs.Lent.{Held, lentNumber}
+use Rattle.component_plan.specs.Answer.{accepted, turnedAway, outcomeOf, outcomeIn, Answers, ReadAnswers}
 
 -- ---- refusals 2 to 4
 

@@ -1,18 +1,16 @@
--- What the contract of `build_active_component_plan` says: 01's number and values for each case of the answer, and the seven buffers.
-use Prim.Native.Nat.{ℕ, _-_, _*_, _%_, _^_, _<_}
+-- What the contract of `build_active_component_plan` says: 01's number and values for each case of the answer, and the seven buffers, by `Held` of the crate `lent`.
+use Prim.Native.Nat.{ℕ}
 use mathlib.Core.Path.{_≡_}
-use mathlib.Core.List.{List, _++_}
-use mathlib.Core.Bool.{Bool, cond, not, _||_}
-use lib.Dec.{eqb, ltb}
-use lib.ListN.{length, take, replicate}
+use mathlib.Core.List.{List}
+use mathlib.Core.Bool.{Bool}
 use lib.Ieee.{Float}
 use Rattle.records.specs.declared.Head.{Head}
-use Rattle.definition.specs.Plan.{Plan, Result, planned, refusedAt, planOf, planRead, heldAfter}
+use Rattle.definition.specs.Plan.{Plan, Result, planned, refusedAt, planOf, planRead}
 use Rattle.component_plan.specs.declared.ActiveComponentPlan.{ActiveComponentPlan}
 use Rattle.component_plan.specs.declared.Planned.{Planned}
 use Rattle.component_plan.specs.declared.Planned.the-variants as P
 use Rattle.walk.specs.Walking.{Buffers, lengthsOf}
-use Rattle.walk.specs.declared.Summary.{Summary}
+pub use Rattle.lent.specs.Lent.{Held}
 
 -- "The result's eight scalar fields, in order", or "its number and record index"
 pub data Outcome : Type 0 where
@@ -32,16 +30,6 @@ outcomeIn (planned p) =
     accepted (p .selected) (p .initialComponents) (p .componentCount) (p .denseWork) (p .componentWork) (p .densePeak) (p .peak) (p .allocated)
 outcomeIn (refusedAt number index) = turnedAway number index
 
--- the seven buffers hold what a result says, whatever they held before: a plan's words and zeros behind them, or zeros alone
-pub record Held (result : Result) (before after : Buffers) : Type 0 where
-  pub steps : after .steps ≡ heldAfter (length (before .steps)) (λ p. p .steps) result
-  pub merges : after .merges ≡ heldAfter (length (before .merges)) (λ p. p .merges) result
-  pub sizes : after .sizes ≡ heldAfter (length (before .sizes)) (λ p. p .sizes) result
-  pub rotations : after .rotations ≡ heldAfter (length (before .rotations)) (λ p. p .rotations) result
-  pub promotions : after .promotions ≡ heldAfter (length (before .promotions)) (λ p. p .promotions) result
-  pub measurements : after .measurements ≡ heldAfter (length (before .measurements)) (λ p. p .measurements) result
-  pub groups : after .groups ≡ heldAfter (length (before .groups)) (λ p. p .groups) result
-
 -- the answer and every buffer are the definition's
 pub record Answers (limit : ℕ) (h : Head) (ws : List ℕ) (before after : Buffers) (r : Planned) : Type 0 where
   pub answer : outcomeOf r ≡ outcomeIn (planOf limit h ws (lengthsOf before))
@@ -51,28 +39,3 @@ pub record Answers (limit : ℕ) (h : Head) (ws : List ℕ) (before after : Buff
 pub record ReadAnswers (limit : ℕ) (h : Head) (densePeak : ℕ) (ws : List ℕ) (before after : Buffers) (r : Planned) : Type 0 where
   pub answer : outcomeOf r ≡ outcomeIn (planRead limit h ws (lengthsOf before) densePeak)
   pub held : (p : Plan) → planRead limit h ws (lengthsOf before) densePeak ≡ planned p → Held (planned p) before after
-
--- refusals 2 to 4, or 0: "2: record words no multiple of 8, or over 8,192"; 3 where a buffer is short; "4: initial_k > 512"
-abbrev pub lentNumber : ℕ → ℕ → Bool → ℕ
-lentNumber initial words short = cond (not (eqb (words % 8) 0) || ltb 8192 words) 2 (cond short 3 (cond (ltb 512 initial) 4 0))
-
--- ---- zeros behind the used words
-
-abbrev pub clearedFrom : ℕ → List ℕ → List ℕ
-clearedFrom n xs = take n xs ++ replicate (length xs - n) 0
-
--- so many words are used of each buffer, with n records
-pub record RestCleared (done : Summary) (n : ℕ) (before after : Buffers) : Type 0 where
-  pub steps : after .steps ≡ clearedFrom (2 * n) (before .steps)
-  pub merges : after .merges ≡ clearedFrom (done .tally .merges) (before .merges)
-  pub sizes : after .sizes ≡ clearedFrom (done .count) (before .sizes)
-  pub rotations : after .rotations ≡ clearedFrom (21 * done .tally .rotations) (before .rotations)
-  pub promotions : after .promotions ≡ clearedFrom (done .tally .promotions) (before .promotions)
-  pub measurements : after .measurements ≡ clearedFrom (19 * done .tally .measurements) (before .measurements)
-  pub groups : after .groups ≡ clearedFrom (done .groups) (before .groups)
-
--- the used words can be counted
-pub record UsedFit (done : Summary) (n : ℕ) : Type 0 where
-  pub steps : 2 * n < 2 ^ 64
-  pub rotations : 21 * done .tally .rotations < 2 ^ 64
-  pub measurements : 19 * done .tally .measurements < 2 ^ 64

@@ -15,7 +15,7 @@ use Rattle.definition.specs.Connectivity.{occurrences, Member}
 use Rattle.definition.proofs.Steps.{cond-yes, cond-no}
 use Rattle.definition.proofs.Counting.{same-or-not, one-here, member-or-not, member-head, member-tail, member-cons}
 use Rattle.definition.proofs.Joins.{meeting-meets, larger-either, largest-member, without-same, without-other}
-use Rattle.planning.specs.Positions.{rank, highestRank, targetIn, leastFrom, leastIn, ascending, sourcesIn}
+use Rattle.positions.specs.Positions.{rank, highestRank, targetIn, leastFrom, leastIn, ascending, sourcesIn}
 
 -- ---- ascending lists
 

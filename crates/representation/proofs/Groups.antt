@@ -16,7 +16,7 @@ use Rattle.definition.specs.Components.{membersOf, sizeOf}
 use Rattle.definition.specs.Connectivity.{occurrences, Member, NoRepeats, ActiveOrder}
 use Rattle.definition.proofs.Counting.{same-or-not, one-here, member-at, place-below, place-holds, occurrences-listed}
 use Rattle.definition.proofs.Invariant.{Holds, listed-active}
-use Rattle.planning.specs.declared.state.State.{State}
+use Rattle.state.specs.declared.State.{State}
 use Rattle.outputs.specs.Buffers.{Counts, countsFrom, countsOf, CountsFit, wordAt, placedUpTo, PlacesFit}
 use Rattle.representation.specs.Represents.{Represents}
 use Rattle.representation.proofs.Sources.{stands-in}

@@ -21,8 +21,8 @@ use Rattle.definition.proofs.Steps.{cond-yes, cond-no}
 use Rattle.definition.proofs.Counting.{same-or-not, member-or-not, member-head, member-tail, member-at, member-isIn, absent-isIn, place-below, place-holds, occurrences-listed}
 use Rattle.definition.proofs.Invariant.{Holds, listed-active}
 use Rattle.definition.proofs.LocalBits.{bit-half}
-use Rattle.planning.specs.declared.state.State.{State}
-use Rattle.planning.specs.Positions.{localOf, reachedMask}
+use Rattle.state.specs.declared.State.{State}
+use Rattle.positions.specs.Positions.{localOf, reachedMask}
 use Rattle.representation.specs.Represents.{Represents}
 use Rattle.representation.proofs.Picked.{cutBoth, maskOf, cut-half, cut-lowest, bit-lowest, bit-below, lowest}
 use Rattle.representation.proofs.Sources.{stands, stands-in}

@@ -20,7 +20,7 @@ use Rattle.definition.proofs.Steps.{cond-yes, cond-no}
 use Rattle.definition.proofs.Counting.{same-or-not, member-head, member-tail, member-cons}
 use Rattle.definition.proofs.LocalBits.{bit-half}
 use Rattle.definition.proofs.Invariant.{anchored-cases}
-use Rattle.planning.specs.Positions.{picked, reachedMask}
+use Rattle.positions.specs.Positions.{picked, reachedMask}
 
 -- ---- picked entries by position
 

@@ -13,8 +13,8 @@ use Rattle.definition.proofs.Joins.{meet-shares, shares-meet, meeting-meets, me
 use Rattle.kernels.specs.Bits.{bitAt}
 use Rattle.definition.proofs.Invariant.{touched-source, Holds, one-list, anchored-some, anchored-member, active-listed}
 use Rattle.definition.proofs.LocalBits.{support-member}
-use Rattle.planning.specs.declared.state.State.{State}
-use Rattle.planning.specs.Positions.{picked, sourcesIn}
+use Rattle.state.specs.declared.State.{State}
+use Rattle.positions.specs.Positions.{picked, sourcesIn}
 use Rattle.representation.specs.Represents.{Represents}
 use Rattle.representation.proofs.Picked.{maskOf, mask-below, bit-below, picked-at, at-picked, picked-reached}
 use Rattle.representation.proofs.Ascending.{Ascending, meeting-ascending, sources-are}

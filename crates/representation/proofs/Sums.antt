@@ -11,7 +11,7 @@ use Rattle.definition.specs.Lists.{total, removeAt}
 use Rattle.definition.specs.Components.{membersOf, sizeOf, gathered, joined, amplitudes, liveDimension}
 use Rattle.definition.specs.Connectivity.{Member, NoRepeats}
 use Rattle.definition.proofs.Counting.{member-head, member-tail}
-use Rattle.planning.specs.Tally.{powers}
+use Rattle.tally.specs.Tally.{powers}
 use Rattle.definition.proofs.Room.{total-set, total-append, shares, emptied-total, joined-total}
 
 -- a component with members has 2 to the power of its size amplitudes

@@ -18,10 +18,10 @@ use Rattle.definition.proofs.Counting.{length-numbers}
 use Rattle.definition.proofs.Steps.{done}
 use Rattle.definition.proofs.Tracking.{activeOf, tracked-here}
 use Rattle.definition.proofs.Room.{Enough, enough, alone-live}
-use Rattle.planning.specs.declared.state.State.{State}
-use Rattle.planning.specs.declared.tally.Tally.{Tally}
-use Rattle.planning.specs.Planning.{Started}
-use Rattle.planning.specs.Tally.{startTally}
+use Rattle.state.specs.declared.State.{State}
+use Rattle.tally.specs.declared.Tally.{Tally}
+use Rattle.state.specs.Planning.{Started}
+use Rattle.tally.specs.Tally.{startTally}
 use Rattle.outputs.specs.Buffers.{countsOf, CountsFit, PlacesFit, placedUpTo}
 use Rattle.representation.proofs.Moving.{represents-start}
 use Rattle.representation.proofs.Groups.{GroupsWritten, groups-written}

@@ -24,18 +24,18 @@ use Rattle.definition.proofs.Invariant.{Holds, sources-once, source-holds}
 use Rattle.definition.proofs.Tracking.{Tracked, activeOf, tracked-here, tracked-join, target-source, target-members}
 use Rattle.definition.proofs.Room.{Kept, JoinKept, join-kept, join-live, holds-live}
 use Rattle.definition.proofs.States.{tracked-whole}
-use Rattle.planning.specs.declared.state.State.{State}
-use Rattle.planning.specs.declared.tally.Joining.{Joining}
-use Rattle.planning.specs.Positions.{picked, reachedMask, sourcesIn, localOf}
-use Rattle.planning.specs.Planning.{BeforeJoin, Joined}
-use Rattle.planning.specs.Tally.{sizesOf, powers, costIn, joiningOf, Countable}
+use Rattle.state.specs.declared.State.{State}
+use Rattle.tally.specs.declared.Joining.{Joining}
+use Rattle.positions.specs.Positions.{picked, reachedMask, sourcesIn, localOf}
+use Rattle.state.specs.Planning.{BeforeJoin, Joined}
+use Rattle.tally.specs.Tally.{sizesOf, powers, costIn, joiningOf, Countable}
 use Rattle.representation.specs.Represents.{Represents}
 use Rattle.representation.proofs.Picked.{maskOf}
 use Rattle.representation.proofs.Sources.{sources-same, reached-source, stands, stands-in}
 use Rattle.representation.proofs.Joining.{size-most, joinable, before-join, represents-join}
 use Rattle.representation.proofs.LocalMasks.{bit-reached, local-same, pivot-in, pivot-place}
 use Rattle.representation.proofs.Sums.{live-join, powers-live}
-use Rattle.walk.specs.Turns.{sourcesAt}
+use Rattle.turns.specs.Turns.{sourcesAt}
 
 -- ---- sums over sources, by sizes and by members
 

@@ -1,6 +1,3 @@
-pub mod Patches
-pub mod Answers
-pub mod Openings
 pub mod Filling
 pub mod Reaching
 pub mod Joining

@@ -25,24 +25,24 @@ use Rattle.definition.proofs.Counting.{same-or-not}
 use Rattle.definition.specs.Walk.{Walk, joinOf, noStep, ignoredStep, promotionStep, rotationStep, measurementStep, step, start, walkFrom}
 use Rattle.definition.specs.Plan.{buffersRefused}
 use Rattle.definition.proofs.Room.{widthOf, enough}
-use Rattle.planning.specs.declared.state.State.{State}
-use Rattle.planning.specs.declared.tally.Tally.{Tally}
-use Rattle.planning.specs.declared.tally.Joining.{Joining}
-use Rattle.planning.specs.Planning.{Started, BeforeJoin, Joined, promoted, BeforeRemoval, Removed}
-use Rattle.planning.specs.Tally.{startTally, joiningOf, ignoredTally}
+use Rattle.state.specs.declared.State.{State}
+use Rattle.tally.specs.declared.Tally.{Tally}
+use Rattle.tally.specs.declared.Joining.{Joining}
+use Rattle.state.specs.Planning.{Started, BeforeJoin, Joined, promoted, BeforeRemoval, Removed}
+use Rattle.tally.specs.Tally.{startTally, joiningOf, ignoredTally}
 use Rattle.outputs.specs.Buffers.{patch, countsOf, CountsFit, placedUpTo, PlacesFit}
 use Rattle.representation.specs.Represents.{Represents}
 use Rattle.walk.specs.Walking.{Buffers, SameLengths, lengthsOf, Begins, WalkEnds, Walkable}
 use Rattle.walk.specs.declared.Walked.the-variants as W
-use Rattle.walk.specs.Turns.{sourcesAt, GatherFits, numberBefore, sourcesBefore, WhereJoined, joinBefore, localActionOf, Settled, JoinedFits, rotationAnswer, RotationDone, measurementAnswer, MeasurementDone, PromotionFits, PromotionDone}
+use Rattle.turns.specs.Turns.{sourcesAt, GatherFits, numberBefore, sourcesBefore, WhereJoined, joinBefore, localActionOf, Settled, JoinedFits, rotationAnswer, RotationDone, measurementAnswer, MeasurementDone, PromotionFits, PromotionDone}
 use Rattle.walk.proofs.Reaching.{Reached, few-records, width-next}
 use Rattle.walk.proofs.Joining as J
 use Rattle.walk.proofs.Stepping.{rotation-width, measurement-width}
 use Rattle.walk.proofs.Turning as T
 use Rattle.walk.proofs.Ending as E
 use Rattle.walk.proofs.Ending.{reached-start}
-use Rattle.walk.proofs.Patches.{patch-none, part-of-patch}
-use Rattle.walk.proofs.Openings.{rotation-empty}
+use Rattle.turns.proofs.Patches.{patch-none, part-of-patch}
+use Rattle.turns.proofs.Openings.{rotation-empty}
 
 -- After i of n records: b are the buffers where the loop begins, and c those that there are now
 pub record Looping (limit k : ℕ) (ws : List ℕ) (n i : ℕ) (s : State) (t : Tally) (b c : Buffers) : Type 0 where

@@ -23,8 +23,8 @@ use Rattle.definition.proofs.Steps.{Stepped, ignored, rotated, promoted, measur
 use Rattle.definition.proofs.Growth.{rowCount, run-steps, run-rows, start-wide, run-rotations, run-measurements, AllOf}
 use Rattle.definition.proofs.Tracking.{Tracked, start-tracked, run-tracked}
 use Rattle.definition.proofs.Room.{or-false, Kept, Narrow, widthOf, run-kept, start-kept, component-count, rows-most, steps-count, live-dimension-below, groups-most, passed-narrow, passed-promotions}
-use Rattle.planning.specs.declared.state.State.{State}
-use Rattle.planning.specs.declared.tally.Tally.{Tally}
+use Rattle.state.specs.declared.State.{State}
+use Rattle.tally.specs.declared.Tally.{Tally}
 use Rattle.representation.specs.Represents.{Represents}
 use Rattle.walk.specs.Walking.{Buffers, lengthsOf, Begins, Tallied, WalkEnds, Walkable}
 use Rattle.walk.specs.declared.Walked.the-variants as W

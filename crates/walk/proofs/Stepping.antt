@@ -20,7 +20,7 @@ use Rattle.records.specs.declared.Instruction.the-variants.{Rotation, Promotion
 use Rattle.definition.specs.Lists.{isIn, placeOf}
 use Rattle.definition.specs.Walk.{Walk, Join, joinOf, localAction, refuse, whenGiven, isNone, tooLarge, ignoredStep, rotationStep, measurementStep, rotate, measure, step}
 use Rattle.definition.proofs.Steps.{cond-yes, cond-no}
-use Rattle.walk.specs.Turns.{numberBefore, sourcesBefore}
+use Rattle.turns.specs.Turns.{numberBefore, sourcesBefore}
 
 -- ---- tests
 

@@ -28,20 +28,20 @@ use Rattle.definition.proofs.Steps.{cond-yes, cond-no}
 use Rattle.definition.proofs.Growth.{rowCount, length-concat}
 use Rattle.definition.proofs.Tracking.{Tracked, activeOf, tracked-here, target-below, target-members, join-length, join-peak-is, measurement-keeps}
 use Rattle.definition.proofs.Room.{Kept, joinRows, JoinKept, join-kept, widthOf, Enough, enough}
-use Rattle.planning.specs.declared.state.State.{State}
-use Rattle.planning.specs.declared.tally.Tally.{Tally}
-use Rattle.planning.specs.declared.tally.Joining.{Joining}
-use Rattle.planning.specs.Positions.{localOf}
-use Rattle.planning.specs.Planning.{BeforeJoin, Joined, promoted, BeforeRemoval, Removed}
-use Rattle.planning.specs.Tally.{powers, powerLeft, joiningOf, Countable, JoinFits, ignoredTally, joinedTally, rotatedTally, promotedTally, measuredTally}
-use Rattle.planning.proofs.Sums.{left-below}
+use Rattle.state.specs.declared.State.{State}
+use Rattle.tally.specs.declared.Tally.{Tally}
+use Rattle.tally.specs.declared.Joining.{Joining}
+use Rattle.positions.specs.Positions.{localOf}
+use Rattle.state.specs.Planning.{BeforeJoin, Joined, promoted, BeforeRemoval, Removed}
+use Rattle.tally.specs.Tally.{powers, powerLeft, joiningOf, Countable, JoinFits, ignoredTally, joinedTally, rotatedTally, promotedTally, measuredTally}
+use Rattle.tally.proofs.Sums.{left-below}
 use Rattle.outputs.specs.Buffers.{patch}
 use Rattle.representation.specs.Represents.{Represents}
 use Rattle.representation.proofs.Moving.{represents-promotion, before-removal, represents-removal}
 use Rattle.representation.proofs.Sums.{live-removal, live-promotion}
 use Rattle.walk.specs.Walking.{Buffers, SameLengths, lengthsOf, Begins, Tallied, WalkEnds, Walkable}
 use Rattle.walk.specs.declared.Walked.the-variants as W
-use Rattle.walk.specs.Turns.{raised, sourcesAt, GatherFits, numberBefore, sourcesBefore, WhereJoined, joinBefore, localActionOf, JoinedFits, rotationAnswer, RotationDone, measurementAnswer, MeasurementDone, PromotionFits, PromotionDone}
+use Rattle.turns.specs.Turns.{raised, sourcesAt, GatherFits, numberBefore, sourcesBefore, WhereJoined, joinBefore, localActionOf, JoinedFits, rotationAnswer, RotationDone, measurementAnswer, MeasurementDone, PromotionFits, PromotionDone}
 use Rattle.walk.proofs.Reaching.{Reached, few-records, tracked, width-next, made, made-next, kept, live-small, quantum-small, steps-written, rows-written, rotations-wide, measurements-wide, run-next, stops}
 use Rattle.walk.proofs.Joining as J
 use Rattle.walk.proofs.Filling.{begins-patch, begins-more, begins-set, begins-at, begins-row}

@@ -11,7 +11,7 @@ use Rattle.definition.specs.Lists.{concat}
 use Rattle.definition.specs.Components.{liveDimension}
 use Rattle.definition.specs.Walk.{Walk, Walked, finished, stopped}
 use Rattle.definition.specs.Plan.{Lengths, groupsOf, wordsRefused, buffersRefused}
-use Rattle.planning.specs.declared.tally.Tally.{Tally}
+use Rattle.tally.specs.declared.Tally.{Tally}
 use Rattle.walk.specs.declared.Summary.{Summary}
 use Rattle.walk.specs.declared.Walked as Declared
 use Rattle.walk.specs.declared.Walked.the-variants as W

@@ -1,6 +1,4 @@
 // The walk over the records. The state is a local of the walk's loop, and is moved by nothing but its own steps.
-pub mod turns;
-
 ghost use Rattle.records.specs.Record.{instructionsOf};
 ghost use Rattle.definition.specs.Walk.{start, walkFrom};
 ghost use Rattle.walk.specs.Walking.{Buffers, Walkable, WalkEnds};
@@ -8,10 +6,10 @@ use outputs::buffers::fill_ones;
 use outputs::buffers::write_counts;
 use outputs::buffers::write_members;
 use outputs::rows::put_step;
-use planning::state::State;
-use planning::tally::Tally;
 use records::Instruction;
 use records::read;
+use state::State;
+use tally::Tally;
 use turns::measure;
 use turns::open;
 use turns::promote;

@@ -16,7 +16,7 @@ use Rattle.definition.specs.Walk.{Walk, finished, start, walkFrom}
 use Rattle.definition.specs.Plan.{planned, planFrom, planRead, buffersRefused, afterWalk}
 use Rattle.definition.proofs.Steps.{Run, run-of-walk}
 use Rattle.walk.specs.Walking.{Buffers, lengthsOf, Walkable, Ended, SameLengths}
-use Rattle.component_plan.specs.Answer.{Held, lentNumber}
+use Rattle.lent.specs.Lent.{Held, lentNumber}
 use Rattle.definition.proofs.Sizes.{reached-longest}
 use Rattle.component_plan.proofs.Filled.{front-fits, front-of-padded, used-fit, size-words, walk-held}
 use Rattle.component_plan.proofs.Refusals.{lent-refused, lent-words, lent-few, lent-room, lent-initial, lent-passed, walk-stops, walk-finishes, read-refused, read-planned, plan-same}
