@@ -1,0 +1,305 @@
+//! The plan, or the refusal, as JSON for programs. Fields of the plan have the names that the
+//! Rust crate gives them. Whole numbers stand in full, up to 2^64 - 1.
+
+use midvokt::{ActiveComponentStepKind as Kind, ActivePauliAction, Complex, Head, Refusal};
+
+use crate::choice::Choice;
+use crate::circuit::Circuit;
+use crate::lives::{Deed, End, Event};
+use crate::planning::View;
+
+/// The fields of an object, each with its value as JSON.
+type Fields = Vec<(&'static str, String)>;
+
+/// A text between quotes.
+fn string(text: &str) -> String {
+    let mut quoted = "\"".to_owned();
+    for character in text.chars() {
+        match character {
+            '"' => quoted.push_str("\\\""),
+            '\\' => quoted.push_str("\\\\"),
+            _ if character.is_control() => {
+                quoted.push_str(&format!("\\u{:04x}", character as u32));
+            }
+            _ => quoted.push(character),
+        }
+    }
+    quoted + "\""
+}
+
+/// An object on one line.
+fn object(fields: &Fields) -> String {
+    let field = |(name, value): &(&str, String)| format!("{}: {value}", string(name));
+    let fields: Vec<_> = fields.iter().map(field).collect();
+    format!("{{{}}}", fields.join(", "))
+}
+
+/// An object with a field a line.
+fn tall_object(fields: &Fields) -> String {
+    let field = |(name, value): &(&str, String)| format!("{}: {value}", string(name));
+    let fields: Vec<_> = fields.iter().map(field).collect();
+    format!("{{\n{}\n}}", fields.join(",\n"))
+}
+
+/// A list on one line.
+fn list<T: ToString>(values: &[T]) -> String {
+    let values: Vec<_> = values.iter().map(T::to_string).collect();
+    format!("[{}]", values.join(", "))
+}
+
+/// A list with a value a line.
+fn tall_list(values: &[String]) -> String {
+    match values {
+        [] => "[]".to_owned(),
+        _ => format!("[\n  {}\n]", values.join(",\n  ")),
+    }
+}
+
+/// A float with all digits that it needs. None of a plan's is infinite or no number.
+fn float(number: f64) -> String {
+    format!("{number:?}")
+}
+
+/// A complex number as a list of two.
+fn complex(number: Complex) -> String {
+    list(&[float(number.re), float(number.im)])
+}
+
+/// A number, or null.
+fn optional(number: Option<usize>) -> String {
+    number.map_or("null".to_owned(), |number| number.to_string())
+}
+
+/// The head.
+fn head(head: &Head) -> String {
+    object(&vec![
+        ("initial_k", head.initial_k.to_string()),
+        ("max_k", head.max_k.to_string()),
+        ("nexpvals", head.nexpvals.to_string()),
+    ])
+}
+
+/// The tests of the choice; null where the records are unread.
+fn tests(choice: &Choice) -> String {
+    let Choice::Tested { tests, .. } = choice else {
+        return "null".to_owned();
+    };
+    let test = |test: &crate::choice::Test| {
+        object(&vec![
+            ("name", string(test.name)),
+            ("left", float(test.left)),
+            ("relation", string(test.relation)),
+            ("right", float(test.right)),
+            ("passes", test.passes.to_string()),
+        ])
+    };
+    tall_list(&tests.iter().map(test).collect::<Vec<_>>())
+}
+
+/// The name of a step's kind.
+fn step_name(kind: Kind) -> &'static str {
+    match kind {
+        Kind::None => "none",
+        Kind::IgnoredGlobalPhase => "ignored_global_phase",
+        Kind::Rotation => "rotation",
+        Kind::Promotion => "promotion",
+        Kind::Measurement => "measurement",
+    }
+}
+
+/// A row's Pauli in its component's own order.
+fn action(action: &ActivePauliAction) -> Fields {
+    vec![
+        ("nqubits", action.nqubits.to_string()),
+        ("xmask", action.xmask.to_string()),
+        ("zmask", action.zmask.to_string()),
+        ("even_phase", complex(action.even_phase)),
+        ("odd_phase", complex(action.odd_phase)),
+        ("xz_overlap_odd", action.xz_overlap_odd.to_string()),
+    ]
+}
+
+/// What applying a rotation needs.
+fn rotation(view: &View<'_>, row: usize) -> Fields {
+    let kernel = &view.plan.rotations[row].kernel;
+    let mut fields = action(&kernel.action);
+    fields.extend([
+        ("is_diagonal", kernel.is_diagonal.to_string()),
+        ("uniform_imag_pairs", kernel.uniform_imag_pairs.to_string()),
+        ("real_pair_flip", kernel.real_pair_flip.to_string()),
+        ("pair_bit", kernel.pair_bit.to_string()),
+        ("pair_count", kernel.pair_count.to_string()),
+        ("kernel_angle", float(kernel.kernel_angle)),
+        ("cos_kernel_angle", float(kernel.cos_kernel_angle)),
+        ("sin_kernel_angle", float(kernel.sin_kernel_angle)),
+        (
+            "minus_even_coefficient",
+            complex(kernel.minus_even_coefficient),
+        ),
+    ]);
+    fields
+}
+
+/// What a measurement needs.
+fn measurement(view: &View<'_>, row: usize) -> Fields {
+    let step = &view.plan.measurements[row];
+    let kernel = &step.kernel;
+    let mut fields = action(&kernel.action);
+    fields.extend([
+        ("pivot", kernel.pivot.to_string()),
+        ("is_diagonal", kernel.is_diagonal.to_string()),
+        ("diagonal_phase_bit", kernel.diagonal_phase_bit.to_string()),
+        ("z_without_pivot", kernel.z_without_pivot.to_string()),
+        ("out_dim", kernel.out_dim.to_string()),
+        (
+            "nondiagonal_coefficient1_even",
+            complex(kernel.nondiagonal_coefficient1_even),
+        ),
+        ("deactivate_after", step.deactivate_after.to_string()),
+    ]);
+    fields
+}
+
+/// What a record joins and where, and its row.
+fn event(view: &View<'_>, event: &Event) -> Fields {
+    let sources: Vec<_> = [event.component]
+        .iter()
+        .chain(&event.joined)
+        .copied()
+        .collect();
+    let mut fields = vec![("component", event.component.to_string())];
+    match event.deed {
+        Deed::Promotion => {}
+        Deed::Rotation => {
+            fields.push(("sources", list(&sources)));
+            fields.push(("members", list(&event.members)));
+            fields.extend(rotation(view, event.row));
+        }
+        Deed::Measurement { leaves, .. } => {
+            fields.push(("sources", list(&sources)));
+            fields.push(("members", list(&event.members)));
+            fields.push(("leaves", leaves.to_string()));
+            fields.extend(measurement(view, event.row));
+        }
+    }
+    fields
+}
+
+/// The records with their steps; none where they are unread.
+fn records(view: &View<'_>) -> String {
+    let steps = view.plan.instruction_steps.iter().enumerate();
+    let record = |(number, step): (usize, &midvokt::ActiveComponentStepRef)| {
+        let placed = &view.circuit.records[number];
+        let mut fields = vec![
+            ("record", number.to_string()),
+            ("line", placed.line.to_string()),
+            ("text", string(&placed.text)),
+            ("step", string(step_name(step.kind))),
+        ];
+        if let Some(found) = view.replay.event(number) {
+            fields.extend(event(view, found));
+        }
+        object(&fields)
+    };
+    tall_list(&steps.map(record).collect::<Vec<_>>())
+}
+
+/// The lives of the components.
+fn components(view: &View<'_>) -> String {
+    let lives = view.replay.lives.iter().enumerate();
+    let component = |(number, life): (usize, &crate::lives::Life)| {
+        let (end, into) = match life.end {
+            End::Lives => ("lives", None),
+            End::Joined { into, .. } => ("joined", Some(into)),
+            End::Emptied { .. } => ("emptied", None),
+        };
+        object(&vec![
+            ("component", number.to_string()),
+            ("born_at", optional(life.born)),
+            ("max_k", life.longest.to_string()),
+            ("end", string(end)),
+            ("end_at", optional(life.end.record())),
+            ("joined_into", optional(into)),
+        ])
+    };
+    tall_list(&lives.map(component).collect::<Vec<_>>())
+}
+
+/// A plan.
+pub fn plan(view: &View<'_>) -> String {
+    let plan = &view.plan;
+    let groups: Vec<_> = plan.groups.iter().map(|members| list(members)).collect();
+    let is_read = matches!(view.choice, Choice::Tested { .. });
+    let fields = vec![
+        ("circuit", string(view.name)),
+        ("head", head(&view.circuit.head)),
+        ("refusal", "null".to_owned()),
+        ("selected", plan.selected.to_string()),
+        ("records_read", is_read.to_string()),
+        ("tests", tests(&view.choice)),
+        ("initial_components", plan.initial_components.to_string()),
+        ("component_count", plan.component_count.to_string()),
+        ("estimated_dense_work", float(plan.estimated_dense_work)),
+        (
+            "estimated_component_work",
+            float(plan.estimated_component_work),
+        ),
+        (
+            "dense_peak_dimension",
+            plan.dense_peak_dimension.to_string(),
+        ),
+        (
+            "component_peak_live_dimension",
+            plan.component_peak_live_dimension.to_string(),
+        ),
+        (
+            "component_allocated_dimension",
+            plan.component_allocated_dimension.to_string(),
+        ),
+        ("component_max_k", list(&plan.component_max_k)),
+        ("records", records(view)),
+        ("components", components(view)),
+        ("groups", list(&groups)),
+    ];
+    tall_object(&fields) + "\n"
+}
+
+/// A refusal.
+pub fn refusal(name: &str, circuit: &Circuit, refusal: &Refusal) -> String {
+    let placed = circuit
+        .records
+        .get(refusal.index)
+        .filter(|_| refusal.is_of_record());
+    let about = object(&vec![
+        ("number", refusal.number.to_string()),
+        ("reason", string(refusal.reason())),
+        ("record", optional(placed.map(|_| refusal.index))),
+        ("line", optional(placed.map(|placed| placed.line))),
+    ]);
+    let fields = vec![
+        ("circuit", string(name)),
+        ("head", head(&circuit.head)),
+        ("refusal", about),
+    ];
+    tall_object(&fields) + "\n"
+}
+
+#[cfg(test)]
+mod tests_of_json {
+    use super::*;
+
+    #[test]
+    fn strings_are_escaped() {
+        assert_eq!(string("a\"b\\c\n\u{7f}ä"), "\"a\\\"b\\\\c\\u000a\\u007fä\"");
+    }
+
+    #[test]
+    fn lists_and_objects_are_joined() {
+        assert_eq!(list(&[1, 2]), "[1, 2]");
+        assert_eq!(list::<usize>(&[]), "[]");
+        assert_eq!(
+            object(&vec![("a", float(-0.0)), ("b", optional(None))]),
+            "{\"a\": -0.0, \"b\": null}"
+        );
+    }
+}

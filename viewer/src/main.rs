@@ -1,0 +1,137 @@
+//! The command behind ./show: reads a circuit file, plans it through the proved library, and
+//! prints the plan or the refusal. Nothing in here is proved; nothing in here plans.
+
+mod angle;
+mod choice;
+mod circuit;
+mod fields;
+mod figures;
+mod files;
+mod json;
+mod lanes;
+mod line;
+mod lives;
+mod options;
+mod pauli;
+mod planning;
+mod shapes;
+mod svg;
+mod text;
+mod words;
+
+use std::io::{self, ErrorKind, Write};
+use std::path::Path;
+use std::process::ExitCode;
+
+use circuit::Circuit;
+use midvokt::Refusal;
+use options::{Options, Request};
+use planning::View;
+
+const PLANNED: u8 = 0;
+const REFUSED: u8 = 1;
+const MALFORMED: u8 = 2;
+
+/// The most bad lines that are told.
+const MOST_TOLD: usize = 20;
+
+/// What goes to standard output, and the exit status.
+struct Answer {
+    text: String,
+    status: u8,
+}
+
+/// The circuit of a file, or all that is to be said of it.
+fn read(path: &Path, name: &str) -> Result<Circuit, String> {
+    let bytes = files::read(path).map_err(|error| format!("{name}: cannot be read: {error}\n"))?;
+    circuit::parse(&bytes).map_err(|faults| {
+        let told = faults.iter().take(MOST_TOLD);
+        let mut text: String = told.map(|fault| format!("{name}:{fault}\n")).collect();
+        if faults.len() > MOST_TOLD {
+            text += &format!("{name}: {} more bad lines\n", faults.len() - MOST_TOLD);
+        }
+        text
+    })
+}
+
+/// Writes a file, or says why it cannot.
+fn write(path: &Path, bytes: &[u8]) -> Result<(), String> {
+    files::write(path, bytes)
+        .map_err(|error| format!("{}: cannot be written: {error}\n", path.display()))
+}
+
+/// What is said of a refusal.
+fn refused(options: &Options, name: &str, circuit: &Circuit, refusal: &Refusal) -> Answer {
+    let mut text = match options.json {
+        true => json::refusal(name, circuit, refusal),
+        false => text::refusal(name, circuit, refusal),
+    };
+    if options.svg.is_some() && !options.json {
+        text.push_str("  no picture is written, since there is no plan\n");
+    }
+    Answer {
+        text,
+        status: REFUSED,
+    }
+}
+
+/// Plans the circuit and gives the view that is asked for.
+fn show(options: &Options) -> Result<Answer, String> {
+    let name = options.circuit.display().to_string();
+    let circuit = read(&options.circuit, &name)?;
+    if let Some(path) = &options.words {
+        write(path, &words::encode(&circuit))?;
+    }
+    let view = match View::of(&name, &circuit) {
+        Ok(view) => view,
+        Err(refusal) => return Ok(refused(options, &name, &circuit, &refusal)),
+    };
+    if let Some(path) = &options.svg {
+        write(path, svg::picture(&view).as_bytes())?;
+    }
+    let text = match options.json {
+        true => json::plan(&view),
+        false => text::plan(&view, &options.style),
+    };
+    Ok(Answer {
+        text,
+        status: PLANNED,
+    })
+}
+
+/// What the command line asks for.
+fn answer() -> Result<Answer, String> {
+    match options::parse(std::env::args_os().skip(1)) {
+        Ok(Request::Help) => Ok(Answer {
+            text: options::HELP.to_owned(),
+            status: PLANNED,
+        }),
+        Ok(Request::Show(options)) => show(&options),
+        Err(message) => Err(format!("show: {message}\n")),
+    }
+}
+
+/// Prints, and takes a reader that has gone away for a good end.
+fn print(text: &str) -> io::Result<()> {
+    let mut output = io::stdout().lock();
+    match output
+        .write_all(text.as_bytes())
+        .and_then(|()| output.flush())
+    {
+        Err(error) if error.kind() == ErrorKind::BrokenPipe => Ok(()),
+        printed => printed,
+    }
+}
+
+/// Prints the answer to standard output, or what is wrong to standard error.
+fn main() -> ExitCode {
+    let printed = answer().and_then(|answer| {
+        print(&answer.text).map_err(|error| format!("show: cannot print: {error}\n"))?;
+        Ok(answer.status)
+    });
+    ExitCode::from(printed.unwrap_or_else(|message| {
+        // Where standard error is gone too, the status alone tells.
+        let _ = io::stderr().write_all(message.as_bytes());
+        MALFORMED
+    }))
+}

@@ -1,0 +1,442 @@
+//! The components' lives as an SVG picture: a lane a component, time from left to right, with
+//! births, joins, rotations, measurements and ends marked, and a tooltip for each.
+
+use crate::choice::Choice;
+use crate::figures;
+use crate::lives::{Deed, End, Event, Life};
+use crate::planning::View;
+use crate::shapes::{self, escaped, line, shade, share, stroke};
+use crate::shapes::{FAINT, GREY, INK, LARGEST, WHITE};
+use crate::text;
+
+/// Where the first lane begins.
+const LEFT: f64 = 52.0;
+const TOP: f64 = 112.0;
+/// Room for words behind the lanes, and for the legend below them.
+const RIGHT: f64 = 170.0;
+const LEGEND: f64 = 96.0;
+/// The legend and the heading need as much.
+const LEAST_WIDTH: f64 = 900.0;
+/// The least distance between two numbers on the axis.
+const TICK: f64 = 26.0;
+
+/// Distances by the number of records and components.
+struct Layout {
+    step: f64,
+    lane: f64,
+    events: usize,
+    lanes: usize,
+}
+
+impl Layout {
+    /// Distances at which the picture stays readable.
+    fn of(events: usize, lanes: usize) -> Self {
+        let step = match events {
+            0..=24 => 34.0,
+            25..=48 => 22.0,
+            49..=120 => 15.0,
+            _ => 10.0,
+        };
+        let lane = match lanes {
+            0..=16 => 30.0,
+            17..=64 => 19.0,
+            _ => 14.0,
+        };
+        Self {
+            step,
+            lane,
+            events,
+            lanes,
+        }
+    }
+
+    /// The middle of an event's column.
+    fn x(&self, place: usize) -> f64 {
+        LEFT + self.step * (place as f64 + 1.0)
+    }
+
+    /// The middle of a component's lane.
+    fn y(&self, component: usize) -> f64 {
+        TOP + self.lane * (component as f64 + 0.5)
+    }
+
+    /// Where lanes that live to the end stop.
+    fn end(&self) -> f64 {
+        self.x(self.events)
+    }
+
+    /// Where the lanes' rows stop.
+    fn bottom(&self) -> f64 {
+        TOP + self.lane * self.lanes as f64
+    }
+
+    /// Half the height of a mark.
+    fn mark(&self) -> f64 {
+        (self.lane * 0.27).min(self.step * 0.4).min(6.5)
+    }
+
+    /// The radius of the corner in which a lane turns to the one it joins.
+    fn bend(&self) -> f64 {
+        (self.step * 0.4).min(self.lane * 0.5)
+    }
+
+    /// The thickness of a lane: more for more members.
+    fn thickness(&self, size: usize) -> f64 {
+        3.0 + share(size) * (self.lane * 0.55 - 3.0)
+    }
+
+    /// The size of the words beside a lane.
+    fn font(&self) -> f64 {
+        (self.lane * 0.6).min(12.0)
+    }
+
+    /// Whether there is room for numbers above marks.
+    fn shows_sizes(&self) -> bool {
+        self.step >= 20.0
+    }
+
+    /// The picture's own width and height.
+    fn size(&self) -> (f64, f64) {
+        let width = (self.end() + RIGHT).max(LEAST_WIDTH);
+        (width, self.bottom() + LEGEND)
+    }
+}
+
+/// A picture in the making.
+struct Picture<'a> {
+    view: &'a View<'a>,
+    layout: Layout,
+    text: String,
+}
+
+impl Picture<'_> {
+    /// Adds a line.
+    fn add(&mut self, line: &str) {
+        self.text.push_str(line);
+        self.text.push('\n');
+    }
+
+    /// Adds words at a place.
+    fn words(&mut self, (x, y): (f64, f64), more: &str, words: &str) {
+        let words = escaped(words);
+        self.add(&format!(
+            "<text x=\"{x:.1}\" y=\"{y:.1}\" {more}>{words}</text>"
+        ));
+    }
+
+    /// Adds words of less weight, of this size, at a place.
+    fn grey_words(&mut self, place: (f64, f64), font: f64, anchor: &str, words: &str) {
+        let more = format!("fill=\"{GREY}\" font-size=\"{font:.1}\" text-anchor=\"{anchor}\"");
+        self.words(place, &more, words);
+    }
+
+    /// The column of a record that has one.
+    fn column(&self, record: usize) -> f64 {
+        let events = &self.view.replay.events;
+        let place = events.partition_point(|event| event.record < record);
+        self.layout.x(place)
+    }
+
+    /// Name, choice, works and dimensions.
+    fn heading(&mut self) {
+        let plan = &self.view.plan;
+        let choice = match plan.selected {
+            true => "Selected",
+            false => "Not selected",
+        };
+        let (dense, component) = (plan.estimated_dense_work, plan.estimated_component_work);
+        let compared = text::comparison(dense, component);
+        let why = match &self.view.choice {
+            Choice::Unread(reason) => format!("{choice}: {reason}; no record is read"),
+            Choice::Tested { tests, .. } => {
+                format!("{choice}: {}; {compared}", text::verdict(tests))
+            }
+        };
+        let works = format!(
+            "work {} dense, {} in components; dimensions: peak {}, allocated {}, dense peak {}",
+            figures::float(dense),
+            figures::float(component),
+            figures::whole(plan.component_peak_live_dimension as u64),
+            figures::whole(plan.component_allocated_dimension as u64),
+            figures::dimension(plan.dense_peak_dimension as u64)
+        );
+        let title = format!("Components of {}", self.view.name);
+        let bold = "font-size=\"18\" font-weight=\"bold\"";
+        self.words((16.0, 28.0), bold, &title);
+        self.words((16.0, 49.0), "font-size=\"13\"", &why);
+        self.grey_words((16.0, 67.0), 12.0, "start", &works);
+        self.grey_words((LEFT - 6.0, TOP - 8.0), 12.0, "end", "record");
+    }
+
+    /// Record numbers with faint lines, so many apart that they can be read.
+    fn axis(&mut self) {
+        let every = (TICK / self.layout.step).ceil() as usize;
+        for place in (0..self.layout.events).step_by(every) {
+            let x = self.layout.x(place);
+            let path = format!("M{x:.1} {:.1}V{:.1}", TOP - 3.0, self.layout.bottom());
+            self.add(&line(&path, FAINT, 1.0));
+            let record = self.view.replay.events[place].record.to_string();
+            self.grey_words((x, TOP - 8.0), 11.0, "middle", &record);
+        }
+    }
+
+    /// A lane: a segment for each size, its number in front and its end in words behind.
+    fn lane(&mut self, component: usize, life: &Life) {
+        let y = self.layout.y(component);
+        let end = match life.end {
+            End::Lives => "data-end=\"lives\"".to_owned(),
+            End::Joined { at, into } => {
+                format!("data-end=\"joined\" data-at=\"{at}\" data-into=\"{into}\"")
+            }
+            End::Emptied { at } => format!("data-end=\"emptied\" data-at=\"{at}\""),
+        };
+        let born = match life.born {
+            Some(born) => born.to_string(),
+            None => "start".to_owned(),
+        };
+        let about = escaped(&lane_title(component, life));
+        self.add(&format!(
+            "<g class=\"lane\" data-component=\"{component}\" data-born=\"{born}\" {end}>\
+             <title>{about}</title>"
+        ));
+        for (from, to, size) in self.segments(life) {
+            let path = format!("M{from:.1} {y:.1}H{to:.1}");
+            self.add(&line(&path, &shade(size), self.layout.thickness(size)));
+        }
+        self.lane_ends(component, life);
+        self.add("</g>");
+    }
+
+    /// The parts of a lane between changes of its size: from, to, size.
+    fn segments(&self, life: &Life) -> Vec<(f64, f64, usize)> {
+        let stop = match life.end {
+            End::Lives => self.layout.end() - 4.0,
+            End::Joined { at, .. } => self.column(at) - self.layout.bend(),
+            End::Emptied { at } => self.column(at),
+        };
+        let mut from = life.born.map_or(LEFT, |born| self.column(born));
+        let mut size = 1;
+        let mut segments = Vec::new();
+        for &(record, after) in &life.sizes {
+            let to = self.column(record);
+            segments.push((from, to, size));
+            (from, size) = (to, after);
+        }
+        if size > 0 {
+            segments.push((from, stop, size));
+        }
+        segments
+    }
+
+    /// A bar where a lane begins at the start, an arrow where it lives to the end, and words.
+    fn lane_ends(&mut self, component: usize, life: &Life) {
+        let (y, end, font) = (
+            self.layout.y(component),
+            self.layout.end(),
+            self.layout.font(),
+        );
+        if life.born.is_none() {
+            let half = self.layout.lane * 0.3;
+            let path = format!("M{LEFT:.1} {:.1}V{:.1}", y - half, y + half);
+            self.add(&line(&path, GREY, 2.0));
+        }
+        if life.end == End::Lives {
+            let size = life.sizes.last().map_or(1, |&(_, size)| size);
+            let half = self.layout.thickness(size) / 2.0 + 2.5;
+            let (back, tip, top, bottom) = (end - 5.0, end + 3.0, y - half, y + half);
+            let path = format!("M{back:.1} {top:.1}L{tip:.1} {y:.1}L{back:.1} {bottom:.1}Z");
+            self.add(&format!("<path d=\"{path}\" fill=\"{}\"/>", shade(size)));
+        }
+        let number = format!("font-size=\"{font:.1}\" text-anchor=\"end\"");
+        let base = y + font * 0.35;
+        self.words((LEFT - 7.0, base), &number, &component.to_string());
+        let fate = fate(&self.view.replay.members[component], life);
+        self.grey_words((end + 10.0, base), font, "start", &fate);
+    }
+
+    /// The path from a component's lane to the one that it joins at an event.
+    fn join_path(&self, event: &Event, from: usize) -> String {
+        let (x, target) = (self.column(event.record), self.layout.y(event.component));
+        let (y, bend) = (self.layout.y(from), self.layout.bend());
+        let edge = self.layout.thickness(event.members.len()) / 2.0;
+        let down = if target < y { -1.0 } else { 1.0 };
+        format!(
+            "M{:.1} {y:.1}Q{x:.1} {y:.1} {x:.1} {:.1}V{:.1}",
+            x - bend,
+            y + down * bend,
+            target - down * edge.max(3.0)
+        )
+    }
+
+    /// The lines by which others join an event's component, all over one white edge.
+    fn joins(&mut self, event: &Event) {
+        for &from in &event.joined {
+            let path = self.join_path(event, from);
+            self.add(&line(&path, WHITE, 5.0));
+        }
+        let (record, into) = (event.record, event.component);
+        for &from in &event.joined {
+            let path = self.join_path(event, from);
+            self.add(&format!(
+                "<path class=\"join\" data-record=\"{record}\" data-from=\"{from}\" \
+                 data-into=\"{into}\" d=\"{path}\" {}>\
+                 <title>record {record}: component {from} joins {into}</title></path>",
+                stroke(GREY, 2.0)
+            ));
+        }
+    }
+
+    /// The mark of an event on its component's lane.
+    fn mark(&mut self, event: &Event) {
+        let (record, component) = (event.record, event.component);
+        let (x, y) = (self.column(record), self.layout.y(component));
+        let placed = &self.view.circuit.records[record];
+        let said = figures::cut(&placed.text, 80);
+        let about = format!(
+            "record {record}, line {}: {}\n{}",
+            placed.line,
+            escaped(&said),
+            escaped(&text::deed(self.view, event))
+        );
+        let class = shapes::class(event.deed);
+        let shape = shapes::mark(event.deed, x, y, self.layout.mark());
+        self.add(&format!(
+            "<g class=\"{class}\" data-record=\"{record}\" data-component=\"{component}\">\
+             <title>{about}</title>{shape}</g>"
+        ));
+        if !event.joined.is_empty() && self.layout.shows_sizes() {
+            let above = y - self.layout.lane * 0.33;
+            let members = event.members.len().to_string();
+            self.words((x + 5.0, above), "font-size=\"10\"", &members);
+        }
+    }
+
+    /// What the marks mean, below the lanes.
+    fn legend(&mut self) {
+        let y = self.layout.bottom() + 26.0;
+        let measured = |empties| Deed::Measurement { leaves: 0, empties };
+        let marks = [
+            (Deed::Promotion, 162.0, "promotion"),
+            (Deed::Rotation, 262.0, "rotation"),
+            (measured(false), 352.0, "measurement"),
+            (measured(true), 470.0, "measurement that ends it"),
+        ];
+        self.add("<g class=\"legend\">");
+        let (top, base, bottom) = (y - 6.0, y + 4.0, y + 6.0);
+        self.add(&line(&format!("M20 {top:.1}V{bottom:.1}"), GREY, 2.0));
+        self.words((28.0, base), "", "there at the start");
+        for (deed, x, words) in marks {
+            self.add(&shapes::mark(deed, x, y, 6.0));
+            self.words((x + 12.0, base), "", words);
+        }
+        let join = format!("M652 {bottom:.1}Q664 {bottom:.1} 664 {top:.1}");
+        self.add(&line(&join, GREY, 2.0));
+        self.words((674.0, base), "", "joins the component marked there");
+        self.sizes_legend(y + 26.0);
+        self.add("</g>");
+    }
+
+    /// How thick and dark a lane is for its members, and what has no column.
+    fn sizes_legend(&mut self, y: f64) {
+        self.words((16.0, y + 4.0), "", "members of a lane:");
+        for (place, size) in [1, 2, 4, 8, LARGEST].into_iter().enumerate() {
+            let x = 140.0 + 70.0 * place as f64;
+            let path = format!("M{x} {y:.1}h34");
+            self.add(&line(&path, &shade(size), self.layout.thickness(size)));
+            let more = if size == LARGEST { " or more" } else { "" };
+            self.words((x + 40.0, y + 4.0), "", &format!("{size}{more}"));
+        }
+        let columns = "Records that concern no component have no column.";
+        let sizes = match self.layout.shows_sizes() {
+            true => " A number above a mark: the members after the join.",
+            false => "",
+        };
+        let words = format!("{columns}{sizes}");
+        self.grey_words((16.0, y + 28.0), 12.0, "start", &words);
+    }
+}
+
+/// What the tooltip of a lane says.
+fn lane_title(component: usize, life: &Life) -> String {
+    let born = match life.born {
+        Some(born) => format!("promoted at record {born}"),
+        None => "there at the start".to_owned(),
+    };
+    let end = match life.end {
+        End::Lives => "lives to the end".to_owned(),
+        End::Joined { at, into } => format!("joins component {into} at record {at}"),
+        End::Emptied { at } => format!("ends at record {at}"),
+    };
+    let most = figures::count(life.longest as u64, "member", "members");
+    format!("component {component}: {born}; at most {most}; {end}")
+}
+
+/// What stands behind a lane.
+fn fate(members: &[usize], life: &Life) -> String {
+    match life.end {
+        End::Lives if members.len() > 6 => format!("lives: {} members", members.len()),
+        End::Lives => format!("lives: {}", figures::list(members)),
+        End::Joined { at, into } => format!("joins {into} at {at}"),
+        End::Emptied { at } => format!("ends at {at}"),
+    }
+}
+
+/// The picture of a plan.
+pub fn picture(view: &View<'_>) -> String {
+    let replay = &view.replay;
+    let layout = Layout::of(replay.events.len(), replay.lives.len());
+    let (width, height) = layout.size();
+    let mut picture = Picture {
+        view,
+        layout,
+        text: String::new(),
+    };
+    picture.add(&format!(
+        "<svg xmlns=\"http://www.w3.org/2000/svg\" width=\"{width:.0}\" height=\"{height:.0}\" \
+         viewBox=\"0 0 {width:.0} {height:.0}\" font-family=\"sans-serif\" font-size=\"12\" \
+         fill=\"{INK}\">"
+    ));
+    let name = escaped(view.name);
+    picture.add(&format!("<title>Components of {name}</title>"));
+    picture.add(&format!(
+        "<rect width=\"100%\" height=\"100%\" fill=\"{WHITE}\"/>"
+    ));
+    picture.heading();
+    picture.axis();
+    for (component, life) in replay.lives.iter().enumerate() {
+        picture.lane(component, life);
+    }
+    for event in &replay.events {
+        picture.joins(event);
+    }
+    for event in &replay.events {
+        picture.mark(event);
+    }
+    picture.legend();
+    picture.add("</svg>");
+    picture.text
+}
+
+#[cfg(test)]
+mod tests {
+    use super::*;
+    use crate::circuit;
+
+    #[test]
+    fn lanes_joins_and_ends_are_those_of_the_plan() {
+        let text = "initial 3\nmax 8\nrotate X_X 0.5\nmeasure _ZZ pivot 2\npromote\n\
+                    measure __Z pivot 2";
+        let circuit = circuit::parse(text.as_bytes()).unwrap();
+        let view = View::of("a<b", &circuit).unwrap();
+        let drawn = picture(&view);
+        let count = |what: &str| drawn.matches(what).count();
+        assert_eq!(count("class=\"lane\""), 4);
+        assert_eq!(count("class=\"join\""), 2);
+        assert_eq!(count("class=\"end\""), 1);
+        assert_eq!(count("class=\"promotion\""), 1);
+        assert!(drawn.contains("data-record=\"1\" data-from=\"1\" data-into=\"0\""));
+        assert!(drawn
+            .contains("data-component=\"3\" data-born=\"2\" data-end=\"emptied\" data-at=\"3\""));
+        assert!(drawn.contains("Components of a&lt;b") && !drawn.contains("a<b"));
+    }
+}
