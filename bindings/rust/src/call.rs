@@ -60,6 +60,19 @@ impl Lengths {
             groups: 1024,
         }
     }
+
+    /// The seven lengths in the order of the buffers.
+    pub const fn in_order(&self) -> [usize; 7] {
+        [
+            self.steps,
+            self.merges,
+            self.sizes,
+            self.rotations,
+            self.promotions,
+            self.measurements,
+            self.groups,
+        ]
+    }
 }
 
 /// The seven buffers that the caller lends. Each call writes every word of them.
@@ -79,6 +92,22 @@ pub struct Buffers<'a> {
     pub measurements: &'a mut [u64],
     /// The components that live at the end.
     pub groups: &'a mut [u64],
+}
+
+impl<'a> From<[&'a mut [u64]; 7]> for Buffers<'a> {
+    /// Seven slices in the order of the buffers.
+    fn from(words: [&'a mut [u64]; 7]) -> Self {
+        let [steps, merges, sizes, rotations, promotions, measurements, groups] = words;
+        Self {
+            steps,
+            merges,
+            sizes,
+            rotations,
+            promotions,
+            measurements,
+            groups,
+        }
+    }
 }
 
 /// Row number `number` of rows that have so many words.

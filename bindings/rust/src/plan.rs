@@ -189,33 +189,15 @@ struct Owned {
 impl Owned {
     /// Zeroed buffers for so many records.
     fn for_records(records: usize) -> Self {
-        let lengths = Lengths::for_records(records);
-        let words = [
-            lengths.steps,
-            lengths.merges,
-            lengths.sizes,
-            lengths.rotations,
-            lengths.promotions,
-            lengths.measurements,
-            lengths.groups,
-        ];
+        let lengths = Lengths::for_records(records).in_order();
         Self {
-            words: words.map(|length| vec![0; length]),
+            words: lengths.map(|length| vec![0; length]),
         }
     }
 
     /// The same, lent.
     fn lend(&mut self) -> Buffers<'_> {
-        let [steps, merges, sizes, rotations, promotions, measurements, groups] = &mut self.words;
-        Buffers {
-            steps,
-            merges,
-            sizes,
-            rotations,
-            promotions,
-            measurements,
-            groups,
-        }
+        Buffers::from(self.words.each_mut().map(Vec::as_mut_slice))
     }
 }
 

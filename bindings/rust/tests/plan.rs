@@ -32,42 +32,15 @@ struct Noise {
 impl Noise {
     /// Buffers of just these lengths.
     fn of(lengths: Lengths) -> Self {
-        let Lengths {
-            steps,
-            merges,
-            sizes,
-            rotations,
-            promotions,
-            measurements,
-            groups,
-        } = lengths;
-        let all = [
-            steps,
-            merges,
-            sizes,
-            rotations,
-            promotions,
-            measurements,
-            groups,
-        ];
         Self {
-            words: all.map(|length| vec![0x5a5a; length]),
+            words: lengths.in_order().map(|length| vec![0x5a5a; length]),
             result: [0x5a5a; RESULT_WORDS],
         }
     }
 
     /// The same, lent, and the result.
     fn lend(&mut self) -> (Buffers<'_>, &mut [u64]) {
-        let [steps, merges, sizes, rotations, promotions, measurements, groups] = &mut self.words;
-        let buffers = Buffers {
-            steps,
-            merges,
-            sizes,
-            rotations,
-            promotions,
-            measurements,
-            groups,
-        };
+        let buffers = Buffers::from(self.words.each_mut().map(Vec::as_mut_slice));
         (buffers, &mut self.result)
     }
 }

@@ -98,24 +98,7 @@ impl Room {
     /// The library's call on these buffers.
     #[inline]
     pub fn plan(&mut self, program: &Prepared) -> u64 {
-        let [
-            steps,
-            merges,
-            sizes,
-            rotations,
-            promotions,
-            measurements,
-            groups,
-        ] = &mut self.words;
-        let mut buffers = Buffers {
-            steps,
-            merges,
-            sizes,
-            rotations,
-            promotions,
-            measurements,
-            groups,
-        };
+        let mut buffers = Buffers::from(self.words.each_mut().map(Vec::as_mut_slice));
         plan_words(
             &program.head,
             &program.words,

@@ -71,25 +71,8 @@ impl Memory {
         for (part, length) in self.parts.iter_mut().zip(all.chain([result])) {
             part.prepare(length, noise.word());
         }
-        let [
-            steps,
-            merges,
-            sizes,
-            rotations,
-            promotions,
-            measurements,
-            groups,
-            result,
-        ] = &mut self.parts;
-        let mut buffers = Buffers {
-            steps: steps.lend(),
-            merges: merges.lend(),
-            sizes: sizes.lend(),
-            rotations: rotations.lend(),
-            promotions: promotions.lend(),
-            measurements: measurements.lend(),
-            groups: groups.lend(),
-        };
+        let [outputs @ .., result] = &mut self.parts;
+        let mut buffers = Buffers::from(outputs.each_mut().map(Guarded::lend));
         plan_words(head, words, &mut buffers, result.lend())
     }
 
