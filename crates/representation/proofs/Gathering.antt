@@ -10,7 +10,7 @@ use lib.Seq.{getD-set-same, getD-set-other, getD-append-add}
 use Rattle.definition.specs.Components.{membersOf, sizeOf, gathered}
 use Rattle.definition.specs.Connectivity.{occurrences, Member, NoRepeats}
 use Rattle.definition.proofs.Counting.{same-or-not, one-here, none-here, member-head, member-tail, member-cons}
-use Rattle.state.specs.Planning.{Gathering, gatherFrom, gathering, targetOf, sizesAfter}
+use Rattle.state.specs.Steps.{Gathering, gatherFrom, gathering, targetOf, sizesAfter}
 
 once-head : (s : ℕ) (ss : List ℕ) → NoRepeats (s ∷ ss) → occurrences s ss ≡ 0
 once-head s ss once = let o = once s in let g = one-here s s ss refl in omega arith

@@ -17,7 +17,7 @@ use Rattle.definition.proofs.Steps.{cond-yes, cond-no}
 use Rattle.definition.proofs.Counting.{same-or-not, one-here, none-here, member-or-not, member-head, member-tail, member-cons, member-at}
 use Rattle.definition.proofs.Joins.{length-emptied, emptied-in, emptied-out, length-joined}
 use Rattle.state.specs.declared.State.{State}
-use Rattle.state.specs.Planning.{Gathering, gatherFrom, gathering, targetOf, sizesAfter, riseAt, Joinable, BeforeJoin, Joined}
+use Rattle.state.specs.Steps.{Gathering, gatherFrom, gathering, targetOf, sizesAfter, riseAt, Joinable, BeforeJoin, Joined}
 use Rattle.state.proofs.Gathers.{lengths-kept}
 use Rattle.representation.specs.Represents.{Represents}
 use Rattle.representation.proofs.Gathering.{grown-is, rise-out, sizes-out, sizes-in, rise-in}

@@ -17,7 +17,7 @@ use Rattle.definition.proofs.Steps.{cond-yes, cond-no}
 use Rattle.definition.proofs.Counting.{same-or-not, one-here, member-at, length-removeAt, length-numbers, numbers-at}
 use Rattle.state.specs.declared.State.{State}
 use Rattle.positions.specs.Positions.{Below512}
-use Rattle.state.specs.Planning.{Shape, Started, promoted, skip, lowered, BeforeRemoval, Removed}
+use Rattle.state.specs.Steps.{Shape, Started, promoted, skip, lowered, BeforeRemoval, Removed}
 use Rattle.representation.specs.Represents.{Represents}
 
 -- ---- the start

@@ -4,7 +4,7 @@ use mathlib.Core.Path.{_≡_}
 use mathlib.Core.List.{List, [], _∷_}
 use lib.ListN.{length, getD}
 use Rattle.state.specs.declared.State.{State}
-use Rattle.state.specs.Planning.{Shape}
+use Rattle.state.specs.Steps.{Shape}
 use Rattle.definition.specs.Components.{membersOf, sizeOf}
 
 -- by active position: the coordinate there is the member of its component at its place; by component number: how many members it has

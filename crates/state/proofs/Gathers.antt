@@ -9,7 +9,7 @@ use lib.Dec.{eqb}
 use borrow.Author.Count.{below-more}
 use borrow.Author.Tests.{eq-eqb, ne-eqb}
 use Rattle.positions.specs.Positions.{Below512}
-use Rattle.state.specs.Planning.{Gathering, gatherFrom, gathering, targetOf, sizesAfter}
+use Rattle.state.specs.Steps.{Gathering, gatherFrom, gathering, targetOf, sizesAfter}
 use Rattle.state.specs.declared.State.{State}
 use Rattle.positions.proofs.Arrays.{store-below, store-above, store-all}
 

@@ -3,7 +3,7 @@ use mathlib.Core.Bool.{Bool, true, false, cond}
 use Prim.Native.Nat.{ℕ, suc, _≤_}
 use lib.Dec.{ltb}
 use native.Mathlib.Omega.{arith}
-use Rattle.state.specs.Planning.{skip}
+use Rattle.state.specs.Steps.{skip}
 
 -- a position stands at most one further before a removal
 pub skip-near : (pivot p : ℕ) → (p ≤ skip pivot p) × (skip pivot p ≤ suc p)

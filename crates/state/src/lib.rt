@@ -2,8 +2,8 @@
 // position that has that component and that place.
 ghost use mathlib.Core.Path.{_≡_};
 ghost use Prim.Native.Nat.{_≤_, _<_};
-ghost use Rattle.state.specs.Planning.{Started, Joinable, gathering, sizesAfter, BeforeJoin, Joined, promoted, BeforeRemoval, Removed};
-ghost use Rattle.state.specs.Planning as Planning;
+ghost use Rattle.state.specs.Steps.{Started, Joinable, gathering, sizesAfter, BeforeJoin, Joined, promoted, BeforeRemoval, Removed};
+ghost use Rattle.state.specs.Steps as Steps;
 
 pub struct State {
     // by active position: the coordinate there, its component, and its index among that component's members
@@ -42,14 +42,14 @@ pub fn gather_sizes(size: &mut [u8; 512], sources: &[u64]) -> [u8; 512]
 // The position before a removal of what stands at p after it.
 fn skip(pivot: usize, p: usize) -> usize
     requires { ⌜ p < 512 ⌝ }
-    ensures { λ r. ⌜ r ≡ Planning.skip pivot p ⌝ }
+    ensures { λ r. ⌜ r ≡ Steps.skip pivot p ⌝ }
 {
     if p < pivot { p } else { p + 1 }
 }
 
 // The place of a member of a component, after the member at one place of the target has left.
 fn lower(target: u16, local: u8, component: u16, place: u8) -> u8
-    ensures { λ r. ⌜ r ≡ Planning.lowered target local component place ⌝ }
+    ensures { λ r. ⌜ r ≡ Steps.lowered target local component place ⌝ }
 {
     if component != target {
         return place;

@@ -20,7 +20,7 @@ use Rattle.definition.proofs.Tracking.{activeOf, tracked-here}
 use Rattle.definition.proofs.Room.{Enough, enough, alone-live}
 use Rattle.state.specs.declared.State.{State}
 use Rattle.tally.specs.declared.Tally.{Tally}
-use Rattle.state.specs.Planning.{Started}
+use Rattle.state.specs.Steps.{Started}
 use Rattle.tally.specs.Tally.{startTally}
 use Rattle.outputs.specs.Buffers.{countsOf, CountsFit, PlacesFit, placedUpTo}
 use Rattle.representation.proofs.Moving.{represents-start}

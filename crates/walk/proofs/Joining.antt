@@ -27,7 +27,7 @@ use Rattle.definition.proofs.States.{tracked-whole}
 use Rattle.state.specs.declared.State.{State}
 use Rattle.tally.specs.declared.Joining.{Joining}
 use Rattle.positions.specs.Positions.{picked, reachedMask, sourcesIn, localOf}
-use Rattle.state.specs.Planning.{BeforeJoin, Joined}
+use Rattle.state.specs.Steps.{BeforeJoin, Joined}
 use Rattle.tally.specs.Tally.{sizesOf, powers, costIn, joiningOf, Countable}
 use Rattle.representation.specs.Represents.{Represents}
 use Rattle.representation.proofs.Picked.{maskOf}

@@ -28,7 +28,7 @@ use Rattle.definition.proofs.Room.{widthOf, enough}
 use Rattle.state.specs.declared.State.{State}
 use Rattle.tally.specs.declared.Tally.{Tally}
 use Rattle.tally.specs.declared.Joining.{Joining}
-use Rattle.state.specs.Planning.{Started, BeforeJoin, Joined, promoted, BeforeRemoval, Removed}
+use Rattle.state.specs.Steps.{Started, BeforeJoin, Joined, promoted, BeforeRemoval, Removed}
 use Rattle.tally.specs.Tally.{startTally, joiningOf, ignoredTally}
 use Rattle.outputs.specs.Buffers.{patch, countsOf, CountsFit, placedUpTo, PlacesFit}
 use Rattle.representation.specs.Represents.{Represents}

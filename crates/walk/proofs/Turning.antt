@@ -32,7 +32,7 @@ use Rattle.state.specs.declared.State.{State}
 use Rattle.tally.specs.declared.Tally.{Tally}
 use Rattle.tally.specs.declared.Joining.{Joining}
 use Rattle.positions.specs.Positions.{localOf}
-use Rattle.state.specs.Planning.{BeforeJoin, Joined, promoted, BeforeRemoval, Removed}
+use Rattle.state.specs.Steps.{BeforeJoin, Joined, promoted, BeforeRemoval, Removed}
 use Rattle.tally.specs.Tally.{powers, powerLeft, joiningOf, Countable, JoinFits, ignoredTally, joinedTally, rotatedTally, promotedTally, measuredTally}
 use Rattle.tally.proofs.Sums.{left-below}
 use Rattle.outputs.specs.Buffers.{patch}

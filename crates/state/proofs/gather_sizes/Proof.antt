@@ -3,7 +3,7 @@ use mathlib.Core.Path.{_≡_, refl, sym, ap, _∙_}
 use Prim.Native.Nat.{ℕ, _+_, _-_, _≤_}
 use native.Mathlib.Omega.{arith}
 use lib.ListN.{length, getD, drop, set, drop-of-length-le}
-use Rattle.state.specs.Planning.{Gathering, gatherFrom, gathering, targetOf}
+use Rattle.state.specs.Steps.{Gathering, gatherFrom, gathering, targetOf}
 use borrow.Author.Needs.{needs}
 use mathlib.Core.List.{List}
 use denote.Ref.{now}

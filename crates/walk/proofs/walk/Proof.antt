@@ -11,7 +11,7 @@ use lib.ListN.{length, getD, take, drop}
 use Rattle.records.specs.Record.{instructionsOf}
 use Rattle.records.specs.declared.Instruction.the-variants.{DormantBranch}
 use Rattle.records.proofs.Laws.{instruction-at}
-use Rattle.state.specs.Planning.{Joined}
+use Rattle.state.specs.Steps.{Joined}
 use Rattle.turns.specs.Turns.{numberBefore}
 use Rattle.walk.specs.Walking.{Buffers, SameLengths}
 use Rattle.walk.proofs.Looping.{Looping, Met, sources, records-few, join-count, opening, opening-stops, joins, part-fits, part-is, ignored-goes, rotate-asks, rotate-room, rotate-stops, rotate-goes, measure-asks, measure-room, measure-stops, remove-asks, measure-goes, promote-asks, promoted-asks, promote-goes, does-nothing, plain-goes, step-room, quantum-room, ones-fit, begins, count-small, groups-fit, places-fit, finishes}

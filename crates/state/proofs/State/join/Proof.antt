@@ -8,7 +8,7 @@ use lib.ListN.{length, getD}
 use borrow.Author.Needs.{needs}
 use borrow.Author.Count.{below-none}
 use denote.Ref.{now}
-use Rattle.state.specs.Planning.{riseAt, targetOf}
+use Rattle.state.specs.Steps.{riseAt, targetOf}
 use Rattle.state.proofs.Gathers.{length-after, moved, Passed, passed-same, passed-moved}
 use Rattle.state.proofs.State.join.Statement.{statement}
 use Rattle.state.proofs.State.join.Tie as tie

@@ -1,6 +1,6 @@
 -- `state::State::promote` meets its contract: the stores are those of the definition, and the numbers fit below 512.
 use mathlib.Core.Path.{refl}
-use Rattle.state.specs.Planning.{promoted}
+use Rattle.state.specs.Steps.{promoted}
 use borrow.Author.Needs.{needs}
 use Rattle.state.proofs.State.promote.Statement.{statement}
 use Rattle.state.proofs.State.promote.Tie as tie

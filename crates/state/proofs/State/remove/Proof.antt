@@ -4,7 +4,7 @@ use Prim.Native.Nat.{ℕ, _-_, _<_, _≤_}
 use native.Mathlib.Omega.{arith}
 use mathlib.Core.List.{List}
 use lib.ListN.{length, getD, set}
-use Rattle.state.specs.Planning.{skip, lowered}
+use Rattle.state.specs.Steps.{skip, lowered}
 use borrow.Author.Needs.{needs}
 use lib.ListN.{length-set}
 use borrow.Author.Count.{below-none}
