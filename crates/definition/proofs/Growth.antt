@@ -124,6 +124,15 @@ length-concat n (r ∷ rows) all =
     let rest = length-concat n rows (λ i h. all (suc i) (omega arith)) in
     length-append r (concat rows) ∙ let m = mul-suc n (length rows) in omega arith
 
+-- rows behind rows
+pub concat-append : (xs ys : List (List ℕ)) → concat (xs ++ ys) ≡ concat xs ++ concat ys
+concat-append [] ys = refl
+concat-append (x ∷ xs) ys = ap (λ (l : List ℕ). x ++ l) (concat-append xs ys) ∙ sym (append-assoc x (concat xs) (concat ys))
+
+-- one row behind them
+pub concat-more : (rows : List (List ℕ)) (row : List ℕ) → concat (rows ++ (row ∷ [])) ≡ concat rows ++ row
+concat-more rows row = concat-append rows (row ∷ []) ∙ ap (λ (l : List ℕ). concat rows ++ l) (append-nil row)
+
 -- and row i again, from n * i on
 pub row-at : (n : ℕ) (rows : List (List ℕ)) (i : ℕ) → AllOf n rows → i < length rows → take n (drop (n * i) (concat rows)) ≡ getD rows i []
 row-at n [] i all h = absurd (omega arith)

@@ -2,8 +2,8 @@
 -- where the readers look for them, and a row's words are read as its kernel.
 use mathlib.Core.Path.{_≡_, refl, sym, ap, _∙_, subst}
 use mathlib.Core.Bool.{false}
-use mathlib.Core.Option.{some}
-use mathlib.Core.List.{List, [], _∷_, _++_, append-assoc}
+use mathlib.Core.Option.{some, Option·map}
+use mathlib.Core.List.{List, [], _∷_, _++_}
 use Prim.Native.Nat.{ℕ, zero, suc, _+_, _-_, _*_, _<_}
 use native.Mathlib.Omega.{arith}
 use lib.Dec.{eqb}
@@ -22,19 +22,18 @@ use Rattle.definition.specs.Components.{localMask}
 use Rattle.definition.specs.Walk.{Written, Walk, Join, joinOf, noStep, ignoredStep, promotionStep, rotationStep, measurementStep, start, step, finished, onward, walkFrom}
 use Rattle.definition.specs.Plan.{Plan, planFrom, planOf, unread}
 use Rattle.definition.proofs.Steps.{Stepped, ignored, rotated, promoted, measured, recorded, detected, expected, branched, Run, more, run-of-walk}
-use Rattle.definition.proofs.Growth.{Extends, extends-trans, extends-length, Grown, AllOf, length-concat, rotation-row-length, measurement-row-length, run-grown, run-rotations, run-measurements, start-wide}
+use Rattle.definition.proofs.Growth.{Extends, extends-trans, extends-length, Grown, AllOf, length-concat, concat-append, concat-more, rotation-row-length, measurement-row-length, run-grown, run-rotations, run-measurements, start-wide}
 use Rattle.definition.proofs.Replay.{seam-part, seam-entry}
 use Rattle.definition.proofs.Padded.{Pads}
 use Rattle.definition.proofs.Room.{steps-count}
 use Rattle.definition.proofs.Accepted.{accepted}
 use Rattle.walk.specs.Walking.{Buffers, lengthsOf}
-use Rattle.walk.proofs.Filling.{concat-more}
 use Rattle.component_plan.specs.Answer.{Answers}
 use Rattle.component_plan.specs.Demand.{planIn}
 use Rattle.component_plan.specs.declared.ActiveComponentPlan.{ActiveComponentPlan}
 use Rattle.component_plan.specs.declared.Planned.the-variants as P
 use Rattle.component_plan.proofs.Demand.{planned-pads}
-use Rattle.readers.specs.Reading.{partOf, rowAt, within, stepIn, rotationIn, measurementIn}
+use Rattle.readers.specs.Reading.{partOf, rowAt, stepIn, rotationIn, measurementIn}
 use Rattle.readers.specs.Back.{StepIs, GivenBack}
 use Rattle.readers.proofs.Rows.{part-there, row-there}
 use Rattle.readers.proofs.ReadBack.{FloatFits, rotation-fits, rotation-back, measurement-fits, measurement-back}
@@ -57,11 +56,7 @@ row-back n i xs ys held at size e =
     row-there n held i (omega arith) ∙ ap some (same ∙ seam-part xs ys held e)
 
 step-back : (i kind payload : ℕ) (b : Buffers) (written : List ℕ) → length written ≡ 2 * i → Extends (written ++ (kind ∷ payload ∷ [])) (b .steps) → StepIs b i kind payload
-step-back i kind payload b written at e = ap (within stepIn) (row-back 2 i written (kind ∷ payload ∷ []) (b .steps) at refl e)
-
-concat-append : (xs ys : List (List ℕ)) → concat (xs ++ ys) ≡ concat xs ++ concat ys
-concat-append [] ys = refl
-concat-append (x ∷ xs) ys = ap (λ (l : List ℕ). x ++ l) (concat-append xs ys) ∙ sym (append-assoc x (concat xs) (concat ys))
+step-back i kind payload b written at e = ap (Option·map stepIn) (row-back 2 i written (kind ∷ payload ∷ []) (b .steps) at refl e)
 
 -- a row behind rows of n words
 rows-back : (n : ℕ) (rows all : List (List ℕ)) (row held : List ℕ) → AllOf n rows → length row ≡ n → Extends (rows ++ (row ∷ [])) all → Extends (concat all) held
@@ -142,7 +137,7 @@ module _ (u : Walk) (b : Buffers) (held : Holds (u .written) b) (i : ℕ) where
           made = made;
           step = wrote-step 2 (length (w .written .rotations)) w at (g .steps);
           row-is =
-              ap (within rotationIn) (rows-back 21 (w .written .rotations) (o .rotations) _ (b .rotations) rows long (g .rotations) (held .rotations))
+              ap (Option·map rotationIn) (rows-back 21 (w .written .rotations) (o .rotations) _ (b .rotations) rows long (g .rotations) (held .rotations))
               ∙ ap some (rotation-back (j .component) offset (length (j .sources)) k exact);
           sources = wrote-part w j (g .merges);
         },
@@ -163,7 +158,7 @@ module _ (u : Walk) (b : Buffers) (held : Holds (u .written) b) (i : ℕ) where
         made = made;
         step = wrote-step 4 (length (w .written .measurements)) w at (g .steps);
         row-is =
-            ap (within measurementIn) (rows-back 19 (w .written .measurements) (o .measurements) _ (b .measurements) outcomes long (g .measurements) (held .measurements))
+            ap (Option·map measurementIn) (rows-back 19 (w .written .measurements) (o .measurements) _ (b .measurements) outcomes long (g .measurements) (held .measurements))
             ∙ ap some (measurement-back (j .component) offset (length (j .sources)) k last exact);
         sources = wrote-part w j (g .merges);
       }

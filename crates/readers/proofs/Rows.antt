@@ -3,13 +3,13 @@
 -- Assumes nothing.
 use mathlib.Core.Path.{_≡_, sym, ap, _∙_}
 use mathlib.Core.List.{List, []}
-use mathlib.Core.Option.{some, none}
+use mathlib.Core.Option.{some, none, Option·map}
 use Prim.Native.Nat.{ℕ, _+_, _-_, _*_, _≤_, _<_}
 use native.Mathlib.Omega.{arith}
 use lib.ListN.{length, getD, take, drop}
 use lib.Seq.{getD-take, getD-drop}
 use borrow.Author.Tests.{le-leb, lt-leb}
-use Rattle.readers.specs.Reading.{partOf, rowAt, within, stepIn, stepAt}
+use Rattle.readers.specs.Reading.{partOf, rowAt, stepIn, stepAt}
 
 pub part-there : (ws : List ℕ) (offset count : ℕ) → offset + count ≤ length ws → partOf ws offset count ≡ take count (drop offset ws)
 part-there ws offset count h = rw (le-leb _ _ h)
@@ -29,14 +29,14 @@ row-past n ws i h = rw (lt-leb _ _ h)
 
 -- what a reader makes of a row that it takes from its start to its end
 pub row-read : {R : Type 0} (f : List ℕ → R) (n : ℕ) (ws : List ℕ) (i : ℕ) {r : R} → n * i + n ≤ length ws → r ≡ f (take (n * i + n - n * i) (drop (n * i) ws))
-    → some r ≡ within f (rowAt n ws i)
+    → some r ≡ Option·map f (rowAt n ws i)
 row-read f n ws i h e =
     let whole : n * i + n - n * i ≡ n = omega arith in
-    ap some (e ∙ ap (λ (k : ℕ). f (take k (drop (n * i) ws))) whole) ∙ sym (ap (within f) (row-there n ws i h))
+    ap some (e ∙ ap (λ (k : ℕ). f (take k (drop (n * i) ws))) whole) ∙ sym (ap (Option·map f) (row-there n ws i h))
 
 -- and of one that is not there
-pub row-none : {R : Type 0} (f : List ℕ → R) (n : ℕ) (ws : List ℕ) (i : ℕ) → length ws < n * i + n → none ≡ within f (rowAt n ws i)
-row-none f n ws i h = sym (ap (within f) (row-past n ws i h))
+pub row-none : {R : Type 0} (f : List ℕ → R) (n : ℕ) (ws : List ℕ) (i : ℕ) → length ws < n * i + n → none ≡ Option·map f (rowAt n ws i)
+row-none f n ws i h = sym (ap (Option·map f) (row-past n ws i h))
 
 -- word j of the row
 word-there : (n : ℕ) (ws : List ℕ) (i j : ℕ) → j < n → getD (take n (drop (n * i) ws)) j 0 ≡ getD ws (n * i + j) 0
@@ -47,4 +47,4 @@ step-there ws i h =
     let first : 2 * i + 0 ≡ 2 * i = omega arith in
     let kind = word-there 2 ws i 0 (omega arith) ∙ ap (λ (k : ℕ). getD ws k 0) first in
     let payload = word-there 2 ws i 1 (omega arith) in
-    ap (within stepIn) (row-there 2 ws i h) ∙ (λ d. some (record { kind = kind d; payload = payload d }))
+    ap (Option·map stepIn) (row-there 2 ws i h) ∙ (λ d. some (record { kind = kind d; payload = payload d }))

@@ -2,7 +2,7 @@
 use Prim.Native.Nat.{ℕ, _+_, _*_}
 use mathlib.Core.List.{List, [], map}
 use mathlib.Core.Bool.{Bool, cond, not}
-use mathlib.Core.Option.{Option, some, none}
+use mathlib.Core.Option.{Option, some, none, Option·map, Option·getD}
 use lib.Dec.{leb, eqb}
 use lib.ListN.{length, getD, take, drop}
 use lib.Ieee.{binary64, ofBits}
@@ -28,14 +28,6 @@ partOf ws offset count = cond (leb (offset + count) (length ws)) (take count (dr
 -- the n words of the row with this number, where the whole row is there
 abbrev pub rowAt : ℕ → List ℕ → ℕ → Option (List ℕ)
 rowAt n ws i = cond (leb (n * i + n) (length ws)) (some (take n (drop (n * i) ws))) none
-
-abbrev pub within : {A B : Type 0} → (A → B) → Option A → Option B
-within f none = none
-within f (some a) = some (f a)
-
-abbrev pub orElse : {A : Type 0} → A → Option A → A
-orElse a none = a
-orElse a (some b) = b
 
 -- ---- values of words: "Flags are 0 or 1, floats stand as their bits". A flag above 1 counts as set, and a NaN pattern is the one NaN
 
@@ -100,21 +92,21 @@ abbrev pub stepIn : List ℕ → Step
 stepIn ws = record { kind = getD ws 0 0; payload = getD ws 1 0 }
 
 abbrev pub stepAt : List ℕ → ℕ → Option Step
-stepAt ws i = within stepIn (rowAt 2 ws i)
+stepAt ws i = Option·map stepIn (rowAt 2 ws i)
 
 abbrev pub stepReadOf : StepRead → Option Step
 stepReadOf (S.Step kind payload) = some (record { kind = kind; payload = payload })
 stepReadOf S.PastEnd = none
 
 abbrev pub rotationAt : List ℕ → ℕ → Option RotationRow
-rotationAt ws i = within rotationIn (rowAt 21 ws i)
+rotationAt ws i = Option·map rotationIn (rowAt 21 ws i)
 
 abbrev pub rotationReadOf : RotationRead → Option RotationRow
 rotationReadOf (R.Row r) = some r
 rotationReadOf R.PastEnd = none
 
 abbrev pub measurementAt : List ℕ → ℕ → Option MeasurementRow
-measurementAt ws i = within measurementIn (rowAt 19 ws i)
+measurementAt ws i = Option·map measurementIn (rowAt 19 ws i)
 
 abbrev pub measurementReadOf : MeasurementRead → Option MeasurementRow
 measurementReadOf (M.Row r) = some r
@@ -123,7 +115,7 @@ measurementReadOf M.PastEnd = none
 -- ---- "rotation rows are also filled into a lent slice of row structs, with the same values; a short slice is filled to its end, and surplus structs are all zero"
 
 abbrev pub rotationOrZero : List ℕ → ℕ → RotationRow
-rotationOrZero ws i = orElse (rotationIn []) (rotationAt ws i)
+rotationOrZero ws i = Option·getD (rotationAt ws i) (rotationIn [])
 
 abbrev pub filledRows : ℕ → List ℕ → List RotationRow
 filledRows n ws = map (rotationOrZero ws) (numbersFrom 0 n)

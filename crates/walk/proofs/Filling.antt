@@ -1,11 +1,12 @@
 -- Words that stand in front of a buffer, and those that are written behind them: a row, a word, or a longest size that is raised.
 use mathlib.Core.Path.{_≡_, refl, sym, ap, ap₂, _∙_, subst}
-use mathlib.Core.List.{List, [], _∷_, _++_, append-assoc, append-nil}
+use mathlib.Core.List.{List, [], _∷_, _++_, append-assoc}
 use Prim.Native.Nat.{ℕ, suc, _+_, _≤_, _<_, max}
 use native.Mathlib.Omega.{arith}
 use lib.ListN.{length, getD, set, take, drop, length-append, length-set}
 use lib.Seq.{take-append-seam, take-at, set-split, take-set-lt, getD-take}
 use Rattle.definition.specs.Lists.{concat}
+use Rattle.definition.proofs.Growth.{concat-more}
 use Rattle.outputs.specs.Buffers.{patch}
 use Rattle.walk.specs.Walking.{Begins}
 
@@ -35,10 +36,6 @@ pub begins-at : (ws xs : List ℕ) (c : ℕ) → Begins ws xs → c < length ws 
 begins-at ws xs c b h = sym (getD-take (length ws) xs c 0 h) ∙ ap (λ (l : List ℕ). getD l c 0) b
 
 -- a row behind the rows
-pub concat-more : (rows : List (List ℕ)) (row : List ℕ) → concat (rows ++ (row ∷ [])) ≡ concat rows ++ row
-concat-more [] row = append-nil row
-concat-more (r ∷ rows) row = ap (λ (l : List ℕ). r ++ l) (concat-more rows row) ∙ sym (append-assoc r (concat rows) row)
-
 pub begins-row : (rows : List (List ℕ)) (row xs : List ℕ) (at : ℕ) → Begins (concat rows) xs → length (concat rows) ≡ at
     → Begins (concat (rows ++ (row ∷ []))) (patch at row xs)
 begins-row rows row xs at b e = subst (λ (l : List ℕ). Begins l (patch at row xs)) (sym (concat-more rows row)) (begins-patch (concat rows) row xs at b e)

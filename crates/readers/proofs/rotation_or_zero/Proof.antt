@@ -2,7 +2,9 @@
 -- Assumes nothing.
 use mathlib.Core.Path.{ap, sym, _∙_}
 use mathlib.Core.List.{[]}
-use Rattle.readers.specs.Reading.{orElse, rotationIn, rotationReadOf}
+use mathlib.Core.Option.{Option, Option·getD}
+use Rattle.readers.specs.declared.RotationRow.{RotationRow}
+use Rattle.readers.specs.Reading.{rotationIn, rotationReadOf}
 use borrow.Author.Needs.{needs}
 use Rattle.readers.proofs.rotation_or_zero.Statement.{statement}
 use Rattle.readers.proofs.rotation_or_zero.Tie as tie
@@ -23,11 +25,11 @@ rotation-of-requires : tie.Need-rotation-of-requires
 rotation-of-requires c κs = search needs
 
 returns : tie.Need-returns
-returns c = ap (orElse (rotationIn [])) (sym (ap rotationReadOf (c .before .read .given .1)) ∙ c .before .before .before .read-rotation .ensures)
+returns c = ap (λ (o : Option RotationRow). Option·getD o (rotationIn [])) (sym (ap rotationReadOf (c .before .read .given .1)) ∙ c .before .before .before .read-rotation .ensures)
 
 returns-2 : tie.Need-returns-2
 unfolding rotationIn
-returns-2 c = c .rotation-of .ensures ∙ ap (orElse (rotationIn [])) (sym (ap rotationReadOf (c .before .before .enum-told .given .1)) ∙ c .before .before .before .before .read-rotation .ensures)
+returns-2 c = c .rotation-of .ensures ∙ ap (λ (o : Option RotationRow). Option·getD o (rotationIn [])) (sym (ap rotationReadOf (c .before .before .enum-told .given .1)) ∙ c .before .before .before .before .read-rotation .ensures)
 
 pub rotation-or-zero-spec : {M : Type 1} → statement M
 rotation-or-zero-spec =
