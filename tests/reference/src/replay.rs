@@ -82,7 +82,13 @@ fn rotate(
         .get(payload)
         .ok_or("a step names no rotation row")?;
     let merge = (row.merge_offset, row.merge_count);
-    join_row(plan, components, row.component, merge, row.kernel.action.nqubits)
+    join_row(
+        plan,
+        components,
+        row.component,
+        merge,
+        row.kernel.action.nqubits,
+    )
 }
 
 /// Plays a measurement row.
@@ -96,7 +102,13 @@ fn measure(
         .get(payload)
         .ok_or("a step names no measurement row")?;
     let merge = (row.merge_offset, row.merge_count);
-    join_row(plan, components, row.component, merge, row.kernel.action.nqubits)?;
+    join_row(
+        plan,
+        components,
+        row.component,
+        merge,
+        row.kernel.action.nqubits,
+    )?;
     let members = &mut components[row.component];
     if row.kernel.pivot >= members.len() {
         return Err(format!(

@@ -3,23 +3,13 @@
 
 use super::draft::{PROMOTION, low_bits};
 use super::edits::{self, Edit, Words};
+use super::small::program;
 use crate::input::Program;
 use crate::refusals::least_lengths;
 
 /// A record that planning passes over.
 const CLASSICAL: Words = [3, 0, 0, 0, 0, 0, 0, 0];
 const PROMOTED: Words = [PROMOTION, 0, 0, 0, 0, 0, 0, 0];
-
-/// A program with buffers that are just long enough.
-fn program(initial_k: u64, records: &[Words]) -> Program {
-    Program {
-        initial_k,
-        max_k: 8,
-        nexpvals: 0,
-        lengths: None,
-        words: records.concat(),
-    }
-}
 
 /// Just long enough buffers; each of them one short, or one longer; all of no length.
 fn length_choices(words: usize) -> Vec<Option<[u64; 7]>> {

@@ -62,8 +62,8 @@ fn width_after(k: u64, record: &Words) -> u64 {
     }
 }
 
-/// A program of these records.
-fn program(initial_k: u64, records: &[Words]) -> Program {
+/// A program of these records, with buffers that are just long enough.
+pub(super) fn program(initial_k: u64, records: &[Words]) -> Program {
     Program {
         initial_k,
         max_k: 8,
