@@ -6,7 +6,6 @@ use mathlib.Core.Bool.{Bool}
 use lib.Ieee.{Float}
 use Rattle.records.specs.declared.Head.{Head}
 use Rattle.definition.specs.Plan.{Plan, Result, planned, refusedAt, planOf, planRead}
-use Rattle.component_plan.specs.declared.ActiveComponentPlan.{ActiveComponentPlan}
 use Rattle.component_plan.specs.declared.Planned.{Planned}
 use Rattle.component_plan.specs.declared.Planned.the-variants as P
 use Rattle.walk.specs.Walking.{Buffers, lengthsOf}

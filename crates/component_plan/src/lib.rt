@@ -4,7 +4,6 @@ ghost use mathlib.Core.Bool.{false};
 ghost use lib.IntN.{pos};
 ghost use lib.Ieee.{fin};
 ghost use Rattle.definition.specs.Plan.{chosen};
-ghost use Rattle.walk.specs.Walking.{Buffers};
 ghost use Rattle.component_plan.specs.Answer.{Answers, ReadAnswers};
 use kernels::bits::ActiveLength;
 use kernels::bits::active_length;

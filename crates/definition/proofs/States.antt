@@ -1,15 +1,15 @@
 -- The states that the Rust guards against never occur: the invariant says that the components hold the active coordinates and nothing else, and a source of a
 -- join holds one of them. And a row's component was below the limit, since its step was accepted.
 use mathlib.Core.Path.{sym, subst}
-use mathlib.Core.List.{List, [], _∷_}
+use mathlib.Core.List.{List, []}
 use Prim.Native.Nat.{ℕ, _<_}
 use native.Mathlib.Omega.{arith}
-use lib.ListN.{length, getD}
+use lib.ListN.{getD}
 use Rattle.records.specs.declared.Instruction.{Instruction}
 use Rattle.kernels.specs.declared.active.ActivePauliAction.{ActivePauliAction}
 use Rattle.definition.specs.Lists.{placeOf}
 use Rattle.definition.specs.Walk.{Walk, joinOf, localAction, start, noStep, ignoredStep, promotionStep, rotationStep, measurementStep, rowHead, rotationRow, measurementRow}
-use Rattle.definition.specs.Connectivity.{Member, ActiveOrder, activeStart}
+use Rattle.definition.specs.Connectivity.{ActiveOrder, activeStart}
 use Rattle.definition.specs.Laws.{Whole, RowsBelow}
 use Rattle.definition.proofs.Counting.{member-length}
 use Rattle.definition.proofs.Steps.{Stepped, ignored, rotated, promoted, measured, recorded, detected, expected, branched, Run, done, more}

@@ -5,7 +5,7 @@ use mathlib.Core.List.{List, _++_}
 use mathlib.Core.Bool.{Bool, cond, not, _||_}
 use lib.Dec.{eqb, ltb}
 use lib.ListN.{length, take, replicate}
-use Rattle.definition.specs.Plan.{Plan, Result, heldAfter}
+use Rattle.definition.specs.Plan.{Result, heldAfter}
 use Rattle.walk.specs.Walking.{Buffers}
 use Rattle.walk.specs.declared.Summary.{Summary}
 

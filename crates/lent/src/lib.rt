@@ -3,7 +3,6 @@
 ghost use mathlib.Core.Path.{_≡_};
 ghost use Prim.Native.Nat.{_<_, _^_};
 ghost use Rattle.definition.specs.Plan.{chosen, buffersRefused, refusedAt};
-ghost use Rattle.walk.specs.Walking.{Buffers};
 ghost use Rattle.lent.specs.Lent.{Held, lentNumber, UsedFit, RestCleared};
 use outputs::buffers::clear_from;
 use walk::Summary;

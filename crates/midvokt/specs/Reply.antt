@@ -8,7 +8,6 @@ use Rattle.definition.specs.Lists.{numbersFrom}
 use Rattle.definition.specs.Walk.{flagWord, bitsWord}
 use Rattle.definition.specs.Plan.{planOf}
 use Rattle.walk.specs.Walking.{Buffers, lengthsOf}
-use Rattle.component_plan.specs.declared.ActiveComponentPlan.{ActiveComponentPlan}
 use Rattle.component_plan.specs.Answer.{Outcome, accepted, turnedAway, outcomeIn, Held}
 
 -- 0 for a plan, else the refusal's number

@@ -4,16 +4,16 @@ use mathlib.Core.Path.{_≡_, refl, sym, ap, ap₂, _∙_, subst}
 use mathlib.Core.Logic.{_⊎_, inl, inr, ⊎-elim}
 use mathlib.Core.Bool.{Bool, true, false, cond}
 use mathlib.Core.List.{List, [], _∷_}
-use Prim.Native.Nat.{ℕ, zero, suc, _+_, _-_, _*_, _%_, _<_, _≤_, min, max}
+use Prim.Native.Nat.{ℕ, zero, suc, _+_, _-_, _*_, _<_, _≤_, min, max}
 use native.Mathlib.Omega.{arith}
 use lib.Dec.{eqb, ltb}
 use lib.ListN.{length, getD}
 use borrow.Author.Tests.{eq-eqb, ne-eqb, ltb-true, ltb-false}
 use Rattle.definition.specs.Lists.{without, meet}
 use Rattle.definition.specs.Components.{sizeOf, meeting, larger, largest, sourcesOf}
-use Rattle.definition.specs.Connectivity.{occurrences, Member}
+use Rattle.definition.specs.Connectivity.{Member}
 use Rattle.definition.proofs.Steps.{cond-yes, cond-no}
-use Rattle.definition.proofs.Counting.{same-or-not, one-here, member-or-not, member-head, member-tail, member-cons}
+use Rattle.definition.proofs.Counting.{same-or-not, member-head, member-tail, member-cons}
 use Rattle.definition.proofs.Joins.{meeting-meets, larger-either, largest-member, without-same, without-other}
 use Rattle.positions.specs.Positions.{rank, highestRank, targetIn, leastFrom, leastIn, ascending, sourcesIn}
 

@@ -1,16 +1,16 @@
 -- A join by rises: what the members of a source rise by is how many members stand before theirs in the joined component, so each keeps its coordinate at its new
 -- place; and the sizes are those of the joined components.
-use mathlib.Core.Path.{_≡_, refl, sym, ap, ap₂, _∙_, subst}
-use mathlib.Core.Logic.{_⊎_, inl, inr, ⊎-elim}
+use mathlib.Core.Path.{_≡_, refl, sym, ap, _∙_, subst}
+use mathlib.Core.Logic.{_⊎_, ⊎-elim}
 use mathlib.Core.List.{List, [], _∷_, _++_, append-assoc}
-use Prim.Native.Nat.{ℕ, zero, suc, _+_, _<_, _≤_}
+use Prim.Native.Nat.{ℕ, _+_, _<_, _≤_}
 use native.Mathlib.Omega.{arith}
-use lib.ListN.{length, getD, set, replicate, length-set, length-append, length-replicate, getD-replicate, List·getD-append, List·getD-eq-default}
+use lib.ListN.{length, getD, set, length-set, length-append, List·getD-append}
 use lib.Seq.{getD-set-same, getD-set-other, getD-append-add}
 use Rattle.definition.specs.Components.{membersOf, sizeOf, gathered}
 use Rattle.definition.specs.Connectivity.{occurrences, Member, NoRepeats}
 use Rattle.definition.proofs.Counting.{same-or-not, one-here, none-here, member-head, member-tail, member-cons}
-use Rattle.state.specs.Steps.{Gathering, gatherFrom, gathering, targetOf, sizesAfter}
+use Rattle.state.specs.Steps.{Gathering, gatherFrom}
 
 once-head : (s : ℕ) (ss : List ℕ) → NoRepeats (s ∷ ss) → occurrences s ss ≡ 0
 once-head s ss once = let o = once s in let g = one-here s s ss refl in omega arith

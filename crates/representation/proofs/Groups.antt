@@ -13,7 +13,7 @@ use borrow.Author.Tests.{ne-eqb, ltb-true, ltb-false}
 use Rattle.definition.specs.Lists.{placeOf}
 use Rattle.definition.specs.Plan.{groupsOf}
 use Rattle.definition.specs.Components.{membersOf, sizeOf}
-use Rattle.definition.specs.Connectivity.{occurrences, Member, NoRepeats, ActiveOrder}
+use Rattle.definition.specs.Connectivity.{Member, NoRepeats, ActiveOrder}
 use Rattle.definition.proofs.Counting.{same-or-not, one-here, member-at, place-below, place-holds, occurrences-listed}
 use Rattle.definition.proofs.Invariant.{Holds, listed-active}
 use Rattle.state.specs.declared.State.{State}

@@ -2,22 +2,21 @@
 -- other component changes.
 use mathlib.Core.Path.{_≡_, refl, sym, ap, ap₂, _∙_, subst}
 use mathlib.Core.Logic.{_⊎_, inl, inr, ⊎-elim}
-use mathlib.Core.Bool.{cond}
-use mathlib.Core.List.{List, [], _∷_, _++_}
+use mathlib.Core.List.{List, [], _∷_}
 use Prim.Native.Nat.{ℕ, zero, suc, _+_, _<_, _≤_}
 use native.Mathlib.Omega.{arith}
 use lib.Dec.{eqb}
-use lib.ListN.{length, getD, set, drop, replicate, length-set, length-append, length-replicate, getD-replicate, List·getD-append, List·getD-eq-default}
+use lib.ListN.{length, getD, set, replicate, length-append, length-replicate, List·getD-append}
 use lib.Seq.{getD-set-same, getD-set-other}
 use borrow.Author.Tests.{eq-eqb, ne-eqb}
 use Rattle.definition.specs.Lists.{concat}
 use Rattle.definition.specs.Components.{membersOf, sizeOf, gathered, emptied, joined}
 use Rattle.definition.specs.Connectivity.{occurrences, Member, NoRepeats}
 use Rattle.definition.proofs.Steps.{cond-yes, cond-no}
-use Rattle.definition.proofs.Counting.{same-or-not, one-here, none-here, member-or-not, member-head, member-tail, member-cons, member-at}
+use Rattle.definition.proofs.Counting.{same-or-not, one-here, none-here, member-or-not, member-head, member-tail}
 use Rattle.definition.proofs.Joins.{length-emptied, emptied-in, emptied-out, length-joined}
 use Rattle.state.specs.declared.State.{State}
-use Rattle.state.specs.Steps.{Gathering, gatherFrom, gathering, targetOf, sizesAfter, riseAt, Joinable, BeforeJoin, Joined}
+use Rattle.state.specs.Steps.{Gathering, gatherFrom, gathering, riseAt, Joinable, BeforeJoin, Joined}
 use Rattle.state.proofs.Gathers.{lengths-kept}
 use Rattle.representation.specs.Represents.{Represents}
 use Rattle.representation.proofs.Gathering.{grown-is, rise-out, sizes-out, sizes-in, rise-in}

@@ -1,8 +1,7 @@
 -- The local mask by places is the definition's by members: the two are built bit by bit, position by position, and a bit at a position of the component adds the
 -- same power of two to both, since the member at the position's place is the position's coordinate and no other is.
-use mathlib.Core.Path.{_≡_, refl, sym, ap, ap₂, _∙_, subst}
+use mathlib.Core.Path.{_≡_, refl, sym, ap, _∙_, subst}
 use mathlib.Core.Logic.{_⊎_, inl, inr, ⊎-elim}
-use mathlib.Core.Bool.{Bool, true, false, cond}
 use mathlib.Core.List.{List, [], _∷_}
 use Prim.Native.Nat.{ℕ, zero, suc, _+_, _-_, _*_, _/_, _%_, _^_, _<_, _≤_, max}
 use native.Mathlib.Omega.{arith}
@@ -14,17 +13,17 @@ use lib.Bits.{bitOr, or-step, or-shr}
 use lib.ListN.{length, getD}
 use borrow.Author.Tests.{eq-eqb, ne-eqb}
 use Rattle.kernels.specs.Bits.{bitAt}
-use Rattle.definition.specs.Lists.{isIn, placeOf, concat}
+use Rattle.definition.specs.Lists.{isIn, placeOf}
 use Rattle.definition.specs.Components.{membersOf, localMask}
-use Rattle.definition.specs.Connectivity.{occurrences, Member, NoRepeats, ActiveOrder}
-use Rattle.definition.proofs.Steps.{cond-yes, cond-no}
+use Rattle.definition.specs.Connectivity.{Member, NoRepeats, ActiveOrder}
+use Rattle.definition.proofs.Steps.{cond-no}
 use Rattle.definition.proofs.Counting.{same-or-not, member-or-not, member-head, member-tail, member-at, member-isIn, absent-isIn, place-below, place-holds, occurrences-listed}
 use Rattle.definition.proofs.Invariant.{Holds, listed-active}
 use Rattle.definition.proofs.LocalBits.{bit-half}
 use Rattle.state.specs.declared.State.{State}
-use Rattle.positions.specs.Positions.{localOf, reachedMask}
+use Rattle.positions.specs.Positions.{localOf}
 use Rattle.representation.specs.Represents.{Represents}
-use Rattle.representation.proofs.Picked.{cutBoth, maskOf, cut-half, cut-lowest, bit-lowest, bit-below, lowest}
+use Rattle.representation.proofs.Picked.{cutBoth, maskOf, cut-half, cut-lowest, bit-lowest, lowest}
 use Rattle.representation.proofs.Sources.{stands, stands-in}
 use Rattle.representation.proofs.Moving.{once-at}
 

@@ -12,12 +12,11 @@ use lib.Seq.{getD-set-same, getD-set-other, getD-append-seam}
 use borrow.Author.Tests.{eq-eqb, ne-eqb, lt-ltb, le-ltb, ltb-true, ltb-false}
 use Rattle.definition.specs.Lists.{removeAt, numbersFrom}
 use Rattle.definition.specs.Components.{membersOf, sizeOf}
-use Rattle.definition.specs.Connectivity.{occurrences, Member, NoRepeats}
+use Rattle.definition.specs.Connectivity.{Member, NoRepeats}
 use Rattle.definition.proofs.Steps.{cond-yes, cond-no}
 use Rattle.definition.proofs.Counting.{same-or-not, one-here, member-at, length-removeAt, length-numbers, numbers-at}
 use Rattle.state.specs.declared.State.{State}
-use Rattle.positions.specs.Positions.{Below512}
-use Rattle.state.specs.Steps.{Shape, Started, promoted, skip, lowered, BeforeRemoval, Removed}
+use Rattle.state.specs.Steps.{Started, promoted, skip, lowered, BeforeRemoval, Removed}
 use Rattle.representation.specs.Represents.{Represents}
 
 -- ---- the start

@@ -2,7 +2,6 @@
 -- components by position is the components of these coordinates.
 use mathlib.Core.Path.{_≡_, refl, sym, ap, ap₂, _∙_, subst}
 use mathlib.Core.Logic.{_⊎_, inl, inr, ⊎-elim}
-use mathlib.Core.Bool.{Bool, true, false, cond}
 use mathlib.Core.List.{List, [], _∷_}
 use Prim.Native.Nat.{ℕ, zero, suc, _+_, _*_, _/_, _%_, _^_, _<_, _≤_, max}
 use native.Mathlib.Omega.{arith}
@@ -11,8 +10,8 @@ use lib.Dec.{eqb}
 use lib.Arith.{mod-mul}
 use lib.Pow.{pow-pos, pow-mono}
 use lib.ListN.{length, getD, take}
-use lib.Bits.{bitOr, or-step, or-lt, or-zero-l}
-use borrow.Author.Tests.{eq-eqb, ne-eqb, eqb-true, eqb-false}
+use lib.Bits.{bitOr, or-step, or-lt}
+use borrow.Author.Tests.{eq-eqb, ne-eqb}
 use Rattle.kernels.specs.Bits.{bitAt}
 use Rattle.definition.specs.Components.{support, orFirst, reached}
 use Rattle.definition.specs.Connectivity.{Member}

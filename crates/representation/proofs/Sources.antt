@@ -1,12 +1,11 @@
 -- A position's coordinate stands in the component that the state gives the position, and in no other. So the components at the reached positions are the touched
 -- ones, and the sources that the code writes are the definition's.
-use mathlib.Core.Path.{_≡_, refl, sym, ap, _∙_, subst}
-use mathlib.Core.Logic.{⊎-elim}
-use mathlib.Core.List.{List, [], _∷_}
+use mathlib.Core.Path.{_≡_, sym, subst}
+use mathlib.Core.List.{List, []}
 use Prim.Native.Nat.{ℕ, _+_, _-_, _<_, _≤_}
 use native.Mathlib.Omega.{arith}
 use lib.ListN.{length, getD}
-use Rattle.definition.specs.Components.{membersOf, sizeOf, support, reached, meeting, touched, sourcesOf}
+use Rattle.definition.specs.Components.{membersOf, support, reached, meeting, touched, sourcesOf}
 use Rattle.definition.specs.Connectivity.{Member, ActiveOrder}
 use Rattle.definition.proofs.Counting.{member-length, member-at}
 use Rattle.definition.proofs.Joins.{meet-shares, shares-meet, meeting-meets, meets-meeting}
@@ -17,7 +16,7 @@ use Rattle.state.specs.declared.State.{State}
 use Rattle.positions.specs.Positions.{picked, sourcesIn}
 use Rattle.representation.specs.Represents.{Represents}
 use Rattle.representation.proofs.Picked.{maskOf, mask-below, bit-below, picked-at, at-picked, picked-reached}
-use Rattle.representation.proofs.Ascending.{Ascending, meeting-ascending, sources-are}
+use Rattle.representation.proofs.Ascending.{meeting-ascending, sources-are}
 
 module _ (s : State) (cs : List (List ℕ)) (r : ActiveOrder) (h : Holds cs r) (rep : Represents s (r .order) cs) where
   -- the coordinate at a position is a member of the position's component

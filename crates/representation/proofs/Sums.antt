@@ -1,13 +1,10 @@
 -- Works and live dimensions that the code keeps by sizes are the definition's: a join takes the shares of its sources off the live sum and adds the share of all their
 -- members; a removal exchanges a component's share for that of one member less; a promotion adds 2.
-use mathlib.Core.Path.{_≡_, refl, sym, ap, _∙_, subst}
-use mathlib.Core.Bool.{cond}
-use mathlib.Core.List.{List, [], _∷_, _++_, map}
-use Prim.Native.Nat.{ℕ, zero, suc, _+_, _-_, _^_, _<_, _≤_}
+use mathlib.Core.Path.{_≡_, refl, ap}
+use mathlib.Core.List.{List, [], _∷_, _++_}
+use Prim.Native.Nat.{ℕ, _+_, _-_, _^_, _<_, _≤_}
 use native.Mathlib.Omega.{arith}
-use lib.Dec.{eqb}
 use lib.ListN.{length, getD, set}
-use Rattle.definition.specs.Lists.{total, removeAt}
 use Rattle.definition.specs.Components.{membersOf, sizeOf, gathered, joined, amplitudes, liveDimension}
 use Rattle.definition.specs.Connectivity.{Member, NoRepeats}
 use Rattle.definition.proofs.Counting.{member-head, member-tail}

@@ -1,7 +1,7 @@
 -- How the state's arrays stand for a state of the definition's walk.
-use Prim.Native.Nat.{ℕ, _<_, _≤_}
+use Prim.Native.Nat.{ℕ, _<_}
 use mathlib.Core.Path.{_≡_}
-use mathlib.Core.List.{List, [], _∷_}
+use mathlib.Core.List.{List}
 use lib.ListN.{length, getD}
 use Rattle.state.specs.declared.State.{State}
 use Rattle.state.specs.Steps.{Shape}

@@ -1,10 +1,10 @@
 -- Where the walk's loop begins, the state, the sums and the buffers are the definition's start. Where it ends, the definition's walk is finished in the state that is
 -- reached, and the groups are that state's.
 use mathlib.Core.Path.{_≡_, refl, sym, ap, _∙_, subst}
-use mathlib.Core.List.{List, [], _∷_, _++_, map}
+use mathlib.Core.List.{List, _++_}
 use Prim.Native.Nat.{ℕ, _+_, _*_, _/_, _≤_}
 use native.Mathlib.Omega.{arith}
-use lib.ListN.{length, take, drop, replicate, length-map, length-replicate, drop-of-length-le}
+use lib.ListN.{length, take, drop, replicate, drop-of-length-le}
 use lib.Seq.{take-append-seam}
 use Rattle.records.specs.Record.{instructionsOf}
 use Rattle.records.specs.declared.Instruction.{Instruction}
@@ -17,16 +17,15 @@ use Rattle.definition.specs.Connectivity.{activeStart, activeAfter}
 use Rattle.definition.proofs.Counting.{length-numbers}
 use Rattle.definition.proofs.Steps.{done}
 use Rattle.definition.proofs.Tracking.{activeOf, tracked-here}
-use Rattle.definition.proofs.Room.{Enough, enough, alone-live}
+use Rattle.definition.proofs.Room.{enough, alone-live}
 use Rattle.state.specs.declared.State.{State}
 use Rattle.tally.specs.declared.Tally.{Tally}
 use Rattle.state.specs.Steps.{Started}
 use Rattle.tally.specs.Tally.{startTally}
-use Rattle.outputs.specs.Buffers.{countsOf, CountsFit, PlacesFit, placedUpTo}
+use Rattle.outputs.specs.Buffers.{countsOf, placedUpTo}
 use Rattle.representation.proofs.Moving.{represents-start}
 use Rattle.representation.proofs.Groups.{GroupsWritten, groups-written}
-use Rattle.walk.specs.Walking.{Buffers, SameLengths, lengthsOf, Begins, WalkEnds, Walkable}
-use Rattle.walk.specs.declared.Summary.{Summary}
+use Rattle.walk.specs.Walking.{Buffers, SameLengths, lengthsOf, WalkEnds, Walkable}
 use Rattle.walk.specs.declared.Walked.the-variants as W
 use Rattle.walk.proofs.Reaching.{Reached, tracked, made, active-most, groups-small}
 

@@ -1,10 +1,9 @@
 -- Words that stand in front of a buffer, and those that are written behind them: a row, a word, or a longest size that is raised.
-use mathlib.Core.Path.{_≡_, refl, sym, ap, ap₂, _∙_, subst}
+use mathlib.Core.Path.{_≡_, sym, ap, _∙_, subst}
 use mathlib.Core.List.{List, [], _∷_, _++_, append-assoc}
-use Prim.Native.Nat.{ℕ, suc, _+_, _≤_, _<_, max}
-use native.Mathlib.Omega.{arith}
-use lib.ListN.{length, getD, set, take, drop, length-append, length-set}
-use lib.Seq.{take-append-seam, take-at, set-split, take-set-lt, getD-take}
+use Prim.Native.Nat.{ℕ, suc, _+_, _<_}
+use lib.ListN.{length, getD, set, take, drop, length-set}
+use lib.Seq.{take-append-seam, set-split, take-set-lt, getD-take}
 use Rattle.definition.specs.Lists.{concat}
 use Rattle.definition.proofs.Growth.{concat-more}
 use Rattle.outputs.specs.Buffers.{patch}

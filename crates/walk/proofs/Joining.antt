@@ -3,7 +3,7 @@ use mathlib.Core.Path.{_≡_, refl, sym, ap, _∙_, subst}
 use mathlib.Core.Logic.{_⊎_, inl, inr}
 use mathlib.Core.Bool.{false}
 use mathlib.Core.List.{List, [], _∷_, _++_, append-nil}
-use Prim.Native.Nat.{ℕ, zero, suc, _+_, _-_, _%_, _^_, _≤_, _<_, max}
+use Prim.Native.Nat.{ℕ, _+_, _-_, _%_, _^_, _≤_, _<_}
 use native.Mathlib.Omega.{arith}
 use lib.Dec.{eqb}
 use lib.IntN.{pos}
@@ -13,7 +13,7 @@ use lib.Seq.{set-getD}
 use lib.Pow.{pow-mono}
 use Rattle.kernels.specs.Bits.{bitAt, exp2}
 use Rattle.definition.specs.Lists.{isIn, placeOf, concat}
-use Rattle.definition.specs.Components.{membersOf, sizeOf, touched, sourcesOf, gathered, joined, twoF, costFrom, joiningCost, liveDimension, localMask}
+use Rattle.definition.specs.Components.{membersOf, sizeOf, gathered, joined, twoF, costFrom, joiningCost, liveDimension, localMask}
 use Rattle.definition.specs.Walk.{Walk, Join, joinOf}
 use Rattle.definition.specs.Connectivity.{Member, NoRepeats, ActiveOrder, supportOf}
 use Rattle.definition.proofs.Counting.{member-length, member-head, member-tail}
@@ -22,15 +22,13 @@ use Rattle.definition.proofs.LocalBits.{local-below}
 use Rattle.definition.proofs.Live.{rearranged-length}
 use Rattle.definition.proofs.Invariant.{Holds, sources-once, source-holds}
 use Rattle.definition.proofs.Tracking.{Tracked, activeOf, tracked-here, tracked-join, target-source, target-members}
-use Rattle.definition.proofs.Room.{Kept, JoinKept, join-kept, join-live, holds-live}
+use Rattle.definition.proofs.Room.{join-live, holds-live}
 use Rattle.definition.proofs.States.{tracked-whole}
 use Rattle.state.specs.declared.State.{State}
-use Rattle.tally.specs.declared.Joining.{Joining}
 use Rattle.positions.specs.Positions.{picked, reachedMask, sourcesIn, localOf}
 use Rattle.state.specs.Steps.{BeforeJoin, Joined}
-use Rattle.tally.specs.Tally.{sizesOf, powers, costIn, joiningOf, Countable}
+use Rattle.tally.specs.Tally.{sizesOf, powers, costIn, Countable}
 use Rattle.representation.specs.Represents.{Represents}
-use Rattle.representation.proofs.Picked.{maskOf}
 use Rattle.representation.proofs.Sources.{sources-same, reached-source, stands, stands-in}
 use Rattle.representation.proofs.Joining.{size-most, joinable, before-join, represents-join}
 use Rattle.representation.proofs.LocalMasks.{bit-reached, local-same, pivot-in, pivot-place}

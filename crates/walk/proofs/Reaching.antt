@@ -1,7 +1,7 @@
 -- What the loop of the walk keeps: the state, the sums and the buffers are those of the definition's walk after as many records, from which the definition's walk
 -- goes on to the same end. And the bounds that this gives.
 use mathlib.Core.Path.{_≡_, refl, sym, ap, _∙_, subst}
-use mathlib.Core.Bool.{false, not}
+use mathlib.Core.Bool.{not}
 use mathlib.Core.List.{List, [], _∷_, _++_, map}
 use Prim.Native.Nat.{ℕ, zero, suc, _+_, _*_, _/_, _%_, _^_, _≤_, _<_}
 use native.Mathlib.Omega.{arith}
@@ -16,17 +16,17 @@ use Rattle.records.specs.declared.Instruction.the-variants.{Promotion, DormantB
 use Rattle.records.proofs.Laws.{instructions-length}
 use Rattle.definition.specs.Lists.{total, concat}
 use Rattle.definition.specs.Components.{liveDimension}
-use Rattle.definition.specs.Walk.{Walk, step, start, walkFrom, onward, Walked, stopped, noStep, ignoredStep, promotionStep, rotationStep, measurementStep}
+use Rattle.definition.specs.Walk.{Walk, step, start, walkFrom, onward, Walked, noStep, ignoredStep, promotionStep, rotationStep, measurementStep}
 use Rattle.definition.specs.Plan.{groupsOf}
-use Rattle.definition.specs.Connectivity.{ActiveOrder, activeStart, activeAfter, isPromotion}
+use Rattle.definition.specs.Connectivity.{activeStart, activeAfter, isPromotion}
 use Rattle.definition.proofs.Steps.{Stepped, ignored, rotated, promoted, measured, recorded, detected, expected, branched, stepped, Run, done, more}
-use Rattle.definition.proofs.Growth.{rowCount, run-steps, run-rows, start-wide, run-rotations, run-measurements, AllOf}
+use Rattle.definition.proofs.Growth.{rowCount, start-wide, run-rotations, run-measurements, AllOf}
 use Rattle.definition.proofs.Tracking.{Tracked, start-tracked, run-tracked}
 use Rattle.definition.proofs.Room.{or-false, Kept, Narrow, widthOf, run-kept, start-kept, component-count, rows-most, steps-count, live-dimension-below, groups-most, passed-narrow, passed-promotions}
 use Rattle.state.specs.declared.State.{State}
 use Rattle.tally.specs.declared.Tally.{Tally}
 use Rattle.representation.specs.Represents.{Represents}
-use Rattle.walk.specs.Walking.{Buffers, lengthsOf, Begins, Tallied, WalkEnds, Walkable}
+use Rattle.walk.specs.Walking.{Buffers, Begins, Tallied, WalkEnds, Walkable}
 use Rattle.walk.specs.declared.Walked.the-variants as W
 
 pub record Reached (limit k : ℕ) (is : List Instruction) (i : ℕ) (w : Walk) (s : State) (t : Tally) (c : Buffers) : Type 0 where

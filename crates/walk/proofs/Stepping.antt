@@ -1,10 +1,9 @@
 -- The definition's step, by what the code found: a refusal of the width, the answer of the kernel over the joined component, or no test at all.
-use mathlib.Core.Path.{_≡_, refl, sym, ap, ap₂, _∙_, subst}
+use mathlib.Core.Path.{_≡_, refl, sym, ap, _∙_}
 use mathlib.Core.Logic.{_⊎_, inl, inr, ⊎-elim}
 use mathlib.Core.Bool.{Bool, true, false, cond, not}
 use mathlib.Core.Option.{Option, some, none}
-use mathlib.Core.List.{List, [], _∷_}
-use Prim.Native.Nat.{ℕ, _^_, _≤_, _<_, min}
+use Prim.Native.Nat.{ℕ, _^_, _<_, min}
 use native.Mathlib.Omega.{arith}
 use lib.Dec.{eqb, leb, ltb}
 use lib.Ieee.{Float}
@@ -12,15 +11,13 @@ use lib.ListN.{length, getD}
 use borrow.Author.Tests.{eq-eqb, ne-eqb, lt-ltb, le-ltb, leb-true, leb-false, eqb-true, eqb-false}
 use Rattle.kernels.specs.Bits.{dimension}
 use Rattle.kernels.specs.Active.{Answer, given, refused, ofDimension, rotationKernel, rotation, measurement}
-use Rattle.kernels.specs.declared.active.ActivePauliAction.{ActivePauliAction}
-use Rattle.kernels.specs.declared.active.PrecomputedActivePauliRotationKernel.{PrecomputedActivePauliRotationKernel}
 use Rattle.kernels.specs.declared.active.PrecomputedActivePauliMeasurementKernel.{PrecomputedActivePauliMeasurementKernel}
 use Rattle.records.specs.declared.Instruction.{Instruction}
 use Rattle.records.specs.declared.Instruction.the-variants.{Rotation, Promotion, RecordMeasurement, RecordDetector, Measurement, Expectation, DormantBranch}
 use Rattle.definition.specs.Lists.{isIn, placeOf}
-use Rattle.definition.specs.Walk.{Walk, Join, joinOf, localAction, refuse, whenGiven, isNone, tooLarge, ignoredStep, rotationStep, measurementStep, rotate, measure, step}
+use Rattle.definition.specs.Walk.{Walk, Join, joinOf, localAction, refuse, whenGiven, isNone, ignoredStep, rotationStep, measurementStep, rotate, measure, step}
 use Rattle.definition.proofs.Steps.{cond-yes, cond-no}
-use Rattle.turns.specs.Turns.{numberBefore, sourcesBefore}
+use Rattle.turns.specs.Turns.{numberBefore}
 
 -- ---- tests
 

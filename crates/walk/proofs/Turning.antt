@@ -1,16 +1,16 @@
 -- One turn of the walk's loop: where the state, the sums and the buffers are those of the definition's walk, what the code does next is the definition's step, and
 -- they are those of the walk again.
 use mathlib.Core.Path.{_≡_, refl, sym, ap, ap₂, _∙_, subst}
-use mathlib.Core.Logic.{_⊎_, inl, inr, ⊎-elim}
+use mathlib.Core.Logic.{_⊎_, ⊎-elim}
 use mathlib.Core.Bool.{Bool, true, false, cond}
 use mathlib.Core.List.{List, [], _∷_, _++_}
-use Prim.Native.Nat.{ℕ, zero, suc, _+_, _-_, _*_, _/_, _%_, _^_, _≤_, _<_, max}
+use Prim.Native.Nat.{ℕ, suc, _+_, _-_, _*_, _/_, _%_, _^_, _≤_, _<_, max}
 use native.Mathlib.Numerals.{add-one}
 use native.Mathlib.Omega.{arith}
 use lib.Dec.{eqb, leb}
 use lib.IntN.{pos}
 use lib.Ieee.{Float, fin, binary64, add, mul}
-use lib.ListN.{length, getD, set, take, drop, length-append}
+use lib.ListN.{length, getD, set, take, length-append}
 use borrow.Author.Tests.{eq-eqb, ne-eqb, le-leb, lt-leb, leb-false, eqb-true, eqb-false}
 use Rattle.kernels.specs.Bits.{exp2}
 use Rattle.kernels.specs.Active.{Answer, given, refused, action, rotation, measurement}
@@ -21,18 +21,18 @@ use Rattle.records.specs.declared.Instruction.{Instruction}
 use Rattle.records.specs.declared.Instruction.the-variants.{Rotation, Promotion, RecordMeasurement, RecordDetector, Measurement, Expectation, DormantBranch}
 use Rattle.definition.specs.Lists.{concat, removeAt}
 use Rattle.definition.specs.Components.{membersOf, sizeOf, amplitudes, joiningCost, liveDimension, localMask, twoF}
-use Rattle.definition.specs.Walk.{Walk, Written, Join, joinOf, localAction, whenGiven, noStep, ignoredStep, promotionStep, rotationStep, measurementStep, step, start, walkFrom, rotationRow, measurementRow}
+use Rattle.definition.specs.Walk.{Walk, Join, joinOf, localAction, whenGiven, noStep, ignoredStep, promotionStep, rotationStep, measurementStep, step, start, walkFrom, rotationRow, measurementRow}
 use Rattle.definition.specs.Connectivity.{NoRepeats, ActiveOrder, activeStart, activeAfter}
 use Rattle.definition.proofs.Counting.{same-or-not, length-removeAt}
 use Rattle.definition.proofs.Steps.{cond-yes, cond-no}
 use Rattle.definition.proofs.Growth.{rowCount, length-concat}
-use Rattle.definition.proofs.Tracking.{Tracked, activeOf, tracked-here, target-below, target-members, join-length, join-peak-is, measurement-keeps}
-use Rattle.definition.proofs.Room.{Kept, joinRows, JoinKept, join-kept, widthOf, Enough, enough}
+use Rattle.definition.proofs.Tracking.{Tracked, tracked-here, target-below, target-members, join-length, join-peak-is, measurement-keeps}
+use Rattle.definition.proofs.Room.{JoinKept, join-kept, widthOf, Enough, enough}
 use Rattle.state.specs.declared.State.{State}
 use Rattle.tally.specs.declared.Tally.{Tally}
 use Rattle.tally.specs.declared.Joining.{Joining}
 use Rattle.positions.specs.Positions.{localOf}
-use Rattle.state.specs.Steps.{BeforeJoin, Joined, promoted, BeforeRemoval, Removed}
+use Rattle.state.specs.Steps.{BeforeJoin, promoted, BeforeRemoval, Removed}
 use Rattle.tally.specs.Tally.{powers, powerLeft, joiningOf, Countable, JoinFits, ignoredTally, joinedTally, rotatedTally, promotedTally, measuredTally}
 use Rattle.tally.proofs.Sums.{left-below}
 use Rattle.outputs.specs.Buffers.{patch}
@@ -41,11 +41,11 @@ use Rattle.representation.proofs.Moving.{represents-promotion, before-removal, 
 use Rattle.representation.proofs.Sums.{live-removal, live-promotion}
 use Rattle.walk.specs.Walking.{Buffers, SameLengths, lengthsOf, Begins, Tallied, WalkEnds, Walkable}
 use Rattle.walk.specs.declared.Walked.the-variants as W
-use Rattle.turns.specs.Turns.{raised, sourcesAt, GatherFits, numberBefore, sourcesBefore, WhereJoined, joinBefore, localActionOf, JoinedFits, rotationAnswer, RotationDone, measurementAnswer, MeasurementDone, PromotionFits, PromotionDone}
+use Rattle.turns.specs.Turns.{raised, sourcesAt, GatherFits, numberBefore, sourcesBefore, WhereJoined, localActionOf, JoinedFits, rotationAnswer, RotationDone, measurementAnswer, MeasurementDone, PromotionFits, PromotionDone}
 use Rattle.walk.proofs.Reaching.{Reached, few-records, tracked, width-next, made, made-next, kept, live-small, quantum-small, steps-written, rows-written, rotations-wide, measurements-wide, run-next, stops}
 use Rattle.walk.proofs.Joining as J
 use Rattle.walk.proofs.Filling.{begins-patch, begins-more, begins-set, begins-at, begins-row}
-use Rattle.walk.proofs.Stepping.{refused-before, rotation-width, measurement-width, ignores, rotates, measures}
+use Rattle.walk.proofs.Stepping.{refused-before, ignores, rotates, measures}
 
 -- an answer with a kernel has passed a test that refuses
 past-refusal : {K : Type 0} (t : Bool) (n : ℕ) (rest : Answer K) (q : K) → cond t (refused n) rest ≡ given q → (t ≡ false) × (rest ≡ given q)

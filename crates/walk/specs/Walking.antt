@@ -2,9 +2,8 @@
 use Prim.Native.Nat.{ℕ, _/_, _≤_}
 use mathlib.Core.Path.{_≡_}
 use mathlib.Core.List.{List}
-use mathlib.Core.Bool.{Bool, false}
+use mathlib.Core.Bool.{false}
 use lib.ListN.{length, take}
-use Rattle.records.specs.Record.{instructionsOf}
 use Rattle.records.specs.Pass.{recordPass}
 use Rattle.records.specs.declared.Checked.the-variants.{Passed}
 use Rattle.definition.specs.Lists.{concat}

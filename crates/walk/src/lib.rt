@@ -1,7 +1,7 @@
 // The walk over the records. The state is a local of the walk's loop, and is moved by nothing but its own steps.
 ghost use Rattle.records.specs.Record.{instructionsOf};
 ghost use Rattle.definition.specs.Walk.{start, walkFrom};
-ghost use Rattle.walk.specs.Walking.{Buffers, Walkable, WalkEnds};
+ghost use Rattle.walk.specs.Walking.{Walkable, WalkEnds};
 use outputs::buffers::fill_ones;
 use outputs::buffers::write_counts;
 use outputs::buffers::write_members;

@@ -4,8 +4,7 @@ use borrow.Author.Needs.{needs}
 use Prim.Native.Nat.{_-_}
 use mathlib.Core.Path.{_≡_, refl, sym, ap, _∙_, subst}
 use mathlib.Core.Logic.{inl, inr, ⊎-elim}
-use mathlib.Core.List.{List}
-use Prim.Native.Nat.{ℕ, _+_, _≤_}
+use Prim.Native.Nat.{_+_, _≤_}
 use native.Mathlib.Omega.{arith}
 use lib.ListN.{length, getD, take, drop}
 use Rattle.records.specs.Record.{instructionsOf}
@@ -13,7 +12,6 @@ use Rattle.records.specs.declared.Instruction.the-variants.{DormantBranch}
 use Rattle.records.proofs.Laws.{instruction-at}
 use Rattle.state.specs.Steps.{Joined}
 use Rattle.turns.specs.Turns.{numberBefore}
-use Rattle.walk.specs.Walking.{Buffers, SameLengths}
 use Rattle.walk.proofs.Looping.{Looping, Met, sources, records-few, join-count, opening, opening-stops, joins, part-fits, part-is, ignored-goes, rotate-asks, rotate-room, rotate-stops, rotate-goes, measure-asks, measure-room, measure-stops, remove-asks, measure-goes, promote-asks, promoted-asks, promote-goes, does-nothing, plain-goes, step-room, quantum-room, ones-fit, begins, count-small, groups-fit, places-fit, finishes}
 use Rattle.walk.proofs.walk.Statement.{statement}
 use Rattle.walk.proofs.walk.Tie as tie
