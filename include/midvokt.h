@@ -8,10 +8,46 @@
  *
  *   - each pointer is not null and is aligned for uint64_t, also where its length is 0;
  *   - each pointer has as many words behind it as its length says;
- *   - the seven outputs and the result overlap neither each other nor the records.
+ *   - the seven outputs and the result overlap neither each other nor the records;
+ *   - MIDVOKT_STACK_BYTES bytes of stack are left.
  *
  * All lengths are in words of 64 bits. The call keeps no memory and no state between calls,
  * allocates nothing, and may run in several threads at once, each with buffers of its own.
+ *
+ *
+ * Coordinates, positions, components
+ *
+ * A coordinate is one qubit of the register, by a number that it keeps for good. initial_k
+ * coordinates are active at the start, numbered from 0; each promotion makes the next number.
+ * A position counts the active coordinates in their order, from 0: a promotion appends its
+ * coordinate behind the last position; a measurement takes the coordinate at its pivot away,
+ * and those behind it move down by one position. Masks and pivots of records speak of
+ * positions: bit p of a mask is the coordinate that is at position p before the record.
+ *
+ * A component is a set of coordinates that the simulator keeps in one small register, in an
+ * order of its own: its member j is bit j of that register and of the local masks. Coordinate
+ * c begins alone in component c. A record joins the components that it touches: members of
+ * the others are appended to those of the largest (on a tie, the one of the smallest number),
+ * which keeps its number; the others' numbers are not used again.
+ *
+ *
+ * Paulis and angles
+ *
+ * A record's Pauli is P = i^phase X^x Z^z, X in front of Z at each position: a bit in x alone
+ * is X, in z alone Z. A bit in both is XZ = -iY, so each Y needs 1 more in the phase. For
+ * three active coordinates, position 0 first:
+ *
+ *     X0        x = 1, z = 0, phase 0        Y0        x = 1, z = 1, phase 1
+ *     -Z0 Z1    x = 0, z = 3, phase 2        Y0 Y1     x = 3, z = 3, phase 2
+ *     X0 Y2     x = 5, z = 4, phase 1        -Y1       x = 2, z = 2, phase 3
+ *
+ * Y0 with phase 0 would be -iY0, which is not Hermitian; it is planned as it stands, and no
+ * refusal tells. P is Hermitian where phase and the number of bits in both masks are both
+ * even or both odd.
+ *
+ * A rotation is exp(-i angle P): a gate that turns by theta, exp(-i theta/2 P), has the angle
+ * theta/2. The words sine and cosine are sin(angle) and cos(angle) of that same angle; the
+ * library carries them and computes none.
  */
 #ifndef MIDVOKT_H
 #define MIDVOKT_H
@@ -23,6 +59,13 @@
 extern "C" {
 #endif
 
+/* The project's version. */
+#define MIDVOKT_VERSION "0.2.0"
+
+/* Bytes of stack that a call needs, whatever its arguments. At its worst a call was measured
+ * to use 11,336 of them on x86-64; it calls nothing back and does not recurse. */
+#define MIDVOKT_STACK_BYTES 12288
+
 /* ---- Records: eight words each ------------------------------------------------------ */
 
 /* Words of a record, and the most records of a program. */
@@ -31,26 +74,26 @@ extern "C" {
 
 /* The kind, word 0 of a record. */
 enum midvokt_kind {
-    MIDVOKT_KIND_ROTATION = 0,
-    MIDVOKT_KIND_PROMOTION = 1,           /* only the kind is read */
-    MIDVOKT_KIND_RECORD_MEASUREMENT = 2,  /* only the kind is read */
-    MIDVOKT_KIND_RECORD_DETECTOR = 3,     /* only the kind is read */
-    MIDVOKT_KIND_ACTIVE_MEASUREMENT = 4,
-    MIDVOKT_KIND_DORMANT_BRANCH = 5       /* only the kind is read */
+    MIDVOKT_KIND_ROTATION = 0,            /* exp(-i angle P) */
+    MIDVOKT_KIND_PROMOTION = 1,           /* a new coordinate; only the kind is read */
+    MIDVOKT_KIND_RECORD_MEASUREMENT = 2,  /* classical, passed over; only the kind is read */
+    MIDVOKT_KIND_RECORD_DETECTOR = 3,     /* classical, passed over; only the kind is read */
+    MIDVOKT_KIND_ACTIVE_MEASUREMENT = 4,  /* of P, or with flag 1 an expectation of it */
+    MIDVOKT_KIND_DORMANT_BRANCH = 5       /* off the register; only the kind is read */
 };
 
 /* The words of a record. A measurement's last word is unread; with flag 1 its width, masks,
  * phase and pivot are unread too. Mask bits at or above the width count for nothing. */
 enum midvokt_record_word {
     MIDVOKT_RECORD_KIND = 0,
-    MIDVOKT_RECORD_WIDTH = 1,       /* the number of active coordinates */
-    MIDVOKT_RECORD_X = 2,           /* mask by active position */
-    MIDVOKT_RECORD_Z = 3,           /* mask by active position */
-    MIDVOKT_RECORD_PHASE = 4,       /* exponent of i, 0 to 3 */
-    MIDVOKT_RECORD_ANGLE = 5,       /* of a rotation, bits of a double */
-    MIDVOKT_RECORD_SINE = 6,        /* of a rotation, bits of a double */
-    MIDVOKT_RECORD_COSINE = 7,      /* of a rotation, bits of a double */
-    MIDVOKT_RECORD_PIVOT = 5,       /* of a measurement, an active position */
+    MIDVOKT_RECORD_WIDTH = 1,       /* the number of active coordinates, 0 to 62 */
+    MIDVOKT_RECORD_X = 2,           /* mask by position */
+    MIDVOKT_RECORD_Z = 3,           /* mask by position */
+    MIDVOKT_RECORD_PHASE = 4,       /* exponent of i, 0 to 3; each Y needs 1 */
+    MIDVOKT_RECORD_ANGLE = 5,       /* of a rotation exp(-i angle P), bits of a double */
+    MIDVOKT_RECORD_SINE = 6,        /* sin(angle), bits of a double */
+    MIDVOKT_RECORD_COSINE = 7,      /* cos(angle), bits of a double */
+    MIDVOKT_RECORD_PIVOT = 5,       /* of a measurement, the position that leaves */
     MIDVOKT_RECORD_EXPECTATION = 6  /* of a measurement, a flag: 0 or 1 */
 };
 
@@ -180,8 +223,24 @@ enum midvokt_number {
 /*
  * Plans the records. Returns MIDVOKT_PLANNED, or the number of the first refusal.
  *
- * Where max_k is below 8 or nexpvals is not 0, and max_k is below 62, there is a plan with
- * records, initial_k and buffers unread: not selected, and all outputs zero.
+ *   initial_k   the coordinates that are active at the start, 0 to 512; component_count
+ *               components are made: initial_k and one for each promotion, 512 at most
+ *   max_k       the width of the one wide register that the split is compared with: the dense
+ *               peak is 2 to the power of max_k, and the components may allocate 1.25 times
+ *               as much to be selected. Give the greatest number of active coordinates; it is
+ *               not held to the records. 62 or more is refused
+ *   nexpvals    the number of expectation values that the program has; a program that has any
+ *               is not split
+ *   records     the records, one behind the other, eight words each; records_len counts words
+ *   steps, merges, sizes, rotations, promotions, measurements, groups
+ *               the outputs; at least as many words as the macros above say. Every word of
+ *               them is written
+ *   result      the refused record, and the plan's scalar fields; of any length
+ *
+ * Where max_k is below 8 or nexpvals is not 0 (and max_k is below 62) records and buffer
+ * lengths are not looked at, and there is a plan: not selected, the dense peak 2 to the power
+ * of max_k, initial_k copied into the result whatever it is, and all else zero, all outputs
+ * too. To tell such a plan from one whose records were read, look at max_k and nexpvals.
  */
 uint64_t midvokt_plan(uint64_t initial_k, uint64_t max_k, uint64_t nexpvals,
                       const uint64_t *records, size_t records_len,
