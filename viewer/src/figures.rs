@@ -65,6 +65,30 @@ pub fn cut(text: &str, most: usize) -> String {
     format!("{kept}...")
 }
 
+/// Words behind a first part, in lines of at most so many characters; further lines begin
+/// below the first word. A word that is longer than a line stands alone.
+pub fn wrapped(first: &str, words: &str, columns: usize) -> String {
+    let indent = first.chars().count();
+    let mut text = first.to_owned();
+    let mut length = indent;
+    let mut is_first = true;
+    for word in words.split(' ') {
+        let more = word.chars().count();
+        if !is_first && length + 1 + more > columns {
+            text.push('\n');
+            text.extend(std::iter::repeat_n(' ', indent));
+            length = indent;
+        } else if !is_first {
+            text.push(' ');
+            length += 1;
+        }
+        text.push_str(word);
+        length += more;
+        is_first = false;
+    }
+    text + "\n"
+}
+
 /// Ascending numbers as ranges.
 pub fn ranges(numbers: &[usize]) -> String {
     let mut parts: Vec<(usize, usize)> = Vec::new();
@@ -113,5 +137,13 @@ mod tests {
         assert_eq!(ranges(&[0, 1, 2, 5, 7, 8]), "0-2 5 7-8");
         assert_eq!(cut("abcdefgh", 6), "abc...");
         assert_eq!(cut("abcdef", 6), "abcdef");
+    }
+
+    #[test]
+    fn words_go_on_below_the_first() {
+        assert_eq!(wrapped("  a: ", "one two", 12), "  a: one two\n");
+        assert_eq!(wrapped("  a: ", "one two", 11), "  a: one\n     two\n");
+        assert_eq!(wrapped("", "longer than so", 6), "longer\nthan\nso\n");
+        assert_eq!(wrapped("- ", "", 6), "- \n");
     }
 }

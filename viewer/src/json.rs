@@ -1,12 +1,18 @@
-//! The plan, or the refusal, as JSON for programs. Fields of the plan have the names that the
-//! Rust crate gives them. Whole numbers stand in full, up to 2^64 - 1.
+//! The plan, or the refusal, as JSON for programs; docs/JSON.md describes every field. Fields
+//! of the plan have the names that the Rust crate gives them. A field whose whole number may
+//! pass 2^53, which a reader may keep as a float, is a string of digits, whatever it holds.
 
 use midvokt::{ActiveComponentStepKind as Kind, ActivePauliAction, Complex, Head, Refusal};
 
 use crate::choice::Choice;
 use crate::circuit::Circuit;
 use crate::lives::{Deed, End, Event};
+use crate::notes;
 use crate::planning::View;
+use crate::text::{self, refused_record};
+
+/// The number of this form of the output; another form gets another number.
+const FORMAT: u64 = 1;
 
 /// The fields of an object, each with its value as JSON.
 type Fields = Vec<(&'static str, String)>;
@@ -55,6 +61,11 @@ fn tall_list(values: &[String]) -> String {
     }
 }
 
+/// A whole number that may pass 2^53: its digits between quotes.
+fn wide<T: ToString>(number: T) -> String {
+    string(&number.to_string())
+}
+
 /// A float with all digits that it needs. None of a plan's is infinite or no number.
 fn float(number: f64) -> String {
     format!("{number:?}")
@@ -73,9 +84,9 @@ fn optional(number: Option<usize>) -> String {
 /// The head.
 fn head(head: &Head) -> String {
     object(&vec![
-        ("initial_k", head.initial_k.to_string()),
-        ("max_k", head.max_k.to_string()),
-        ("nexpvals", head.nexpvals.to_string()),
+        ("initial_k", wide(head.initial_k)),
+        ("max_k", wide(head.max_k)),
+        ("nexpvals", wide(head.nexpvals)),
     ])
 }
 
@@ -111,8 +122,8 @@ fn step_name(kind: Kind) -> &'static str {
 fn action(action: &ActivePauliAction) -> Fields {
     vec![
         ("nqubits", action.nqubits.to_string()),
-        ("xmask", action.xmask.to_string()),
-        ("zmask", action.zmask.to_string()),
+        ("xmask", wide(action.xmask)),
+        ("zmask", wide(action.zmask)),
         ("even_phase", complex(action.even_phase)),
         ("odd_phase", complex(action.odd_phase)),
         ("xz_overlap_odd", action.xz_overlap_odd.to_string()),
@@ -128,7 +139,7 @@ fn rotation(view: &View<'_>, row: usize) -> Fields {
         ("uniform_imag_pairs", kernel.uniform_imag_pairs.to_string()),
         ("real_pair_flip", kernel.real_pair_flip.to_string()),
         ("pair_bit", kernel.pair_bit.to_string()),
-        ("pair_count", kernel.pair_count.to_string()),
+        ("pair_count", wide(kernel.pair_count)),
         ("kernel_angle", float(kernel.kernel_angle)),
         ("cos_kernel_angle", float(kernel.cos_kernel_angle)),
         ("sin_kernel_angle", float(kernel.sin_kernel_angle)),
@@ -149,8 +160,8 @@ fn measurement(view: &View<'_>, row: usize) -> Fields {
         ("pivot", kernel.pivot.to_string()),
         ("is_diagonal", kernel.is_diagonal.to_string()),
         ("diagonal_phase_bit", kernel.diagonal_phase_bit.to_string()),
-        ("z_without_pivot", kernel.z_without_pivot.to_string()),
-        ("out_dim", kernel.out_dim.to_string()),
+        ("z_without_pivot", wide(kernel.z_without_pivot)),
+        ("out_dim", wide(kernel.out_dim)),
         (
             "nondiagonal_coefficient1_even",
             complex(kernel.nondiagonal_coefficient1_even),
@@ -225,63 +236,62 @@ fn components(view: &View<'_>) -> String {
     tall_list(&lives.map(component).collect::<Vec<_>>())
 }
 
+/// The fields that a plan and a refusal begin with.
+fn opening(name: &str, circuit: &Circuit, refusal: String) -> Fields {
+    let notes: Vec<_> = notes::of(circuit).iter().map(|note| string(note)).collect();
+    vec![
+        ("format", FORMAT.to_string()),
+        ("circuit", string(name)),
+        ("head", head(&circuit.head)),
+        ("notes", tall_list(&notes)),
+        ("refusal", refusal),
+    ]
+}
+
 /// A plan.
 pub fn plan(view: &View<'_>) -> String {
     let plan = &view.plan;
     let groups: Vec<_> = plan.groups.iter().map(|members| list(members)).collect();
     let is_read = matches!(view.choice, Choice::Tested { .. });
-    let fields = vec![
-        ("circuit", string(view.name)),
-        ("head", head(&view.circuit.head)),
-        ("refusal", "null".to_owned()),
+    let mut fields = opening(view.name, view.circuit, "null".to_owned());
+    fields.extend([
         ("selected", plan.selected.to_string()),
         ("records_read", is_read.to_string()),
         ("tests", tests(&view.choice)),
-        ("initial_components", plan.initial_components.to_string()),
+        ("initial_components", wide(plan.initial_components)),
         ("component_count", plan.component_count.to_string()),
         ("estimated_dense_work", float(plan.estimated_dense_work)),
         (
             "estimated_component_work",
             float(plan.estimated_component_work),
         ),
-        (
-            "dense_peak_dimension",
-            plan.dense_peak_dimension.to_string(),
-        ),
+        ("dense_peak_dimension", wide(plan.dense_peak_dimension)),
         (
             "component_peak_live_dimension",
-            plan.component_peak_live_dimension.to_string(),
+            wide(plan.component_peak_live_dimension),
         ),
         (
             "component_allocated_dimension",
-            plan.component_allocated_dimension.to_string(),
+            wide(plan.component_allocated_dimension),
         ),
         ("component_max_k", list(&plan.component_max_k)),
         ("records", records(view)),
         ("components", components(view)),
         ("groups", list(&groups)),
-    ];
+    ]);
     tall_object(&fields) + "\n"
 }
 
 /// A refusal.
 pub fn refusal(name: &str, circuit: &Circuit, refusal: &Refusal) -> String {
-    let placed = circuit
-        .records
-        .get(refusal.index)
-        .filter(|_| refusal.is_of_record());
+    let placed = refused_record(circuit, refusal);
     let about = object(&vec![
-        ("number", refusal.number.to_string()),
-        ("reason", string(refusal.reason())),
+        ("number", refusal.number().to_string()),
+        ("reason", string(&text::reason(circuit, refusal))),
         ("record", optional(placed.map(|_| refusal.index))),
         ("line", optional(placed.map(|placed| placed.line))),
     ]);
-    let fields = vec![
-        ("circuit", string(name)),
-        ("head", head(&circuit.head)),
-        ("refusal", about),
-    ];
-    tall_object(&fields) + "\n"
+    tall_object(&opening(name, circuit, about)) + "\n"
 }
 
 #[cfg(test)]

@@ -171,7 +171,7 @@ fn numbers(part: &Part<'_>, indent: usize) -> String {
 }
 
 /// One part: numbers, rows, and who goes through it without an event.
-fn draw(part: &Part<'_>, replay: &Replay, marks: &Marks) -> String {
+fn draw(part: &Part<'_>, replay: &Replay, marks: &Marks, columns: usize) -> String {
     let label = replay.lives.len().saturating_sub(1).to_string().len();
     let is_whole = part.is_first && part.is_last;
     let mut text = numbers(part, label + 4);
@@ -195,7 +195,8 @@ fn draw(part: &Part<'_>, replay: &Replay, marks: &Marks) -> String {
         text.push('\n');
     }
     if !quiet.is_empty() {
-        text.push_str(&format!("  unchanged here: {}\n", figures::ranges(&quiet)));
+        let quiet = figures::ranges(&quiet);
+        text.push_str(&figures::wrapped("  unchanged here: ", &quiet, columns));
     }
     text
 }
@@ -214,37 +215,50 @@ fn layout(replay: &Replay, style: &Style) -> (usize, usize) {
     }
 }
 
+/// Parts of a legend with room between them, in as many lines as they need.
+fn in_lines(parts: &[String], columns: usize) -> String {
+    let mut text = String::new();
+    let mut length = 0;
+    for part in parts {
+        let more = part.chars().count();
+        let goes_on = length > 0 && length + 3 + more <= columns;
+        text.push_str(match (goes_on, length) {
+            (true, _) => "   ",
+            (false, 0) => "  ",
+            (false, _) => "\n  ",
+        });
+        text.push_str(part);
+        length = more + if goes_on { length + 3 } else { 2 };
+    }
+    text + "\n"
+}
+
 /// What the marks mean.
-fn legend(marks: &Marks) -> String {
-    let Marks {
-        lane,
-        start,
-        join,
-        crossing,
-        upper,
-        between,
-        lower,
-    } = marks;
-    let mut joins = vec![*upper, *between, *lower];
+fn legend(marks: &Marks, columns: usize) -> String {
+    let mut joins = vec![marks.upper, marks.between, marks.lower];
     joins.dedup();
     let joins: Vec<_> = joins.iter().map(char::to_string).collect();
-    format!(
-        "  {start} there at the start   P promotion   R rotation   M measurement   \
-         E measurement that ends it\n  \
-         {lane} lives   > lives at the end   to 4 at 9: it joins component 4 at record 9\n  \
-         {} joins the component with the letter in that column ({join} {crossing}: such a join in \
-         passing)\n",
-        joins.join(" ")
-    )
+    let parts = [
+        format!("{} there at the start", marks.start),
+        "P promotion".to_owned(),
+        "R rotation".to_owned(),
+        "M measurement".to_owned(),
+        "E measurement that ends it".to_owned(),
+        format!("{} lives", marks.lane),
+        "> lives at the end".to_owned(),
+        "to 4 at 9: joins 4 at record 9".to_owned(),
+        format!("{} joins the letter in its column", joins.join(" ")),
+        format!("{} {} a join passes", marks.join, marks.crossing),
+    ];
+    in_lines(&parts, columns)
 }
 
 /// The picture of a plan.
 pub fn picture(replay: &Replay, style: &Style) -> String {
     let marks = if style.ascii { &ASCII } else { &BOXES };
     let (most, pitch) = layout(replay, style);
-    let mut text = "Components: a row each; a column a record that concerns one, its number \
-                    read downwards\n"
-        .to_owned();
+    let heading = "a row each; a column a record that concerns one, number downwards";
+    let mut text = figures::wrapped("Components: ", heading, style.columns);
     let parts = replay.events.len().div_ceil(most).max(1);
     for number in 0..parts {
         let end = ((number + 1) * most).min(replay.events.len());
@@ -254,10 +268,10 @@ pub fn picture(replay: &Replay, style: &Style) -> String {
             is_first: number == 0,
             is_last: number + 1 == parts,
         };
-        text.push_str(&draw(&part, replay, marks));
+        text.push_str(&draw(&part, replay, marks, style.columns));
         text.push('\n');
     }
-    text + &legend(marks)
+    text + &legend(marks, style.columns)
 }
 
 #[cfg(test)]
@@ -283,7 +297,7 @@ mod tests {
         let text = "initial 5\nmax 8\nrotate __XX_ 1\nrotate X_X_X 1\npromote\n\
                     measure _Z____ pivot 1\n";
         assert_eq!(
-            rows(text, 80)[1..7],
+            rows(text, 90)[1..7],
             [
                 "     0 1 2 3",
                 "  0 ├──╮       to 2 at 1",
@@ -293,7 +307,7 @@ mod tests {
                 "  4 ├──╯       to 2 at 1",
             ]
         );
-        assert_eq!(rows(text, 80)[7], "  5      P───> lives");
+        assert_eq!(rows(text, 90)[7], "  5      P───> lives");
     }
 
     #[test]
@@ -301,7 +315,7 @@ mod tests {
         let turned = "rotate X0 1\n".repeat(40);
         let text = format!("initial 3\nmax 8\n{turned}rotate XX_ 1\n");
         let rows = rows(&text, 40);
-        assert!(rows.iter().all(|row| row.chars().count() <= 100));
+        assert!(rows.iter().all(|row| row.chars().count() <= 40));
         let unchanged = rows
             .iter()
             .filter(|row| row.starts_with("  unchanged here:"));
@@ -316,7 +330,7 @@ mod tests {
     #[test]
     fn a_circuit_without_records_has_lanes() {
         assert_eq!(
-            rows("initial 2\nmax 8\n", 80)[1..3],
+            rows("initial 2\nmax 8\n", 90)[1..3],
             ["  0 ├> lives", "  1 ├> lives"]
         );
     }

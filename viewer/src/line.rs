@@ -41,6 +41,16 @@ pub fn quoted(text: &str) -> String {
     format!("'{}{more}'", shown.escape_debug())
 }
 
+/// A file's name with nothing in it that moves a cursor or turns the text around.
+pub fn visible(name: &str) -> String {
+    let turns = |character: char| matches!(character, '\u{61c}' | '\u{200e}' | '\u{200f}' | '\u{2028}'..='\u{202e}' | '\u{2066}'..='\u{2069}');
+    let shown = |character: char| match character.is_control() || turns(character) {
+        true => character.escape_unicode().to_string(),
+        false => character.to_string(),
+    };
+    name.chars().map(shown).collect()
+}
+
 /// A word of a line, or a part of one, and where it begins.
 #[derive(Clone, Copy, Debug, PartialEq, Eq)]
 pub struct Word<'a> {
@@ -55,11 +65,15 @@ pub struct Word<'a> {
 impl<'a> Word<'a> {
     /// The part from a byte on, which begins a character.
     pub fn from(&self, byte: usize) -> Word<'a> {
-        let (before, text) = self.text.split_at(byte);
+        self.at(byte, self.text[..byte].chars().count())
+    }
+
+    /// The part from a byte on that has so many characters in front of it.
+    pub fn at(&self, byte: usize, characters: usize) -> Word<'a> {
         Word {
-            text,
+            text: &self.text[byte..],
             line: self.line,
-            column: self.column + before.chars().count(),
+            column: self.column + characters,
         }
     }
 
@@ -126,22 +140,17 @@ impl<'a> Line<'a> {
             line: number,
             column: 1,
         };
-        let starts_word = |&(byte, character): &(usize, char)| {
+        let starts_word = |&(_, (byte, character)): &(usize, (usize, char))| {
             let before = said[..byte].chars().next_back();
             !character.is_whitespace() && before.is_none_or(char::is_whitespace)
         };
-        let words: Vec<_> = said
-            .char_indices()
-            .filter(starts_word)
-            .map(|(byte, _)| {
-                let rest = whole.from(byte);
-                rest.front(
-                    rest.text
-                        .find(char::is_whitespace)
-                        .unwrap_or(rest.text.len()),
-                )
-            })
-            .collect();
+        let word = |(place, (byte, _)): (usize, (usize, char))| {
+            let rest = whole.at(byte, place);
+            let length = rest.text.find(char::is_whitespace);
+            rest.front(length.unwrap_or(rest.text.len()))
+        };
+        let characters = said.char_indices().enumerate();
+        let words: Vec<_> = characters.filter(starts_word).map(word).collect();
         let end = words
             .last()
             .map_or(1, |word| word.column + word.text.chars().count());
@@ -209,6 +218,10 @@ mod tests {
     #[test]
     fn what_was_found_is_cut_and_moves_no_cursor() {
         assert_eq!(quoted("a\u{1b}[2J"), "'a\\u{1b}[2J'");
+        assert_eq!(
+            visible("a\u{1b}[2J\u{202e}é\"b"),
+            "a\\u{1b}[2J\\u{202e}é\"b"
+        );
         assert_eq!(quoted(&"x".repeat(50)), format!("'{}...'", "x".repeat(40)));
     }
 }

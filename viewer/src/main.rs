@@ -11,11 +11,13 @@ mod json;
 mod lanes;
 mod line;
 mod lives;
+mod notes;
 mod options;
 mod pauli;
 mod planning;
 mod shapes;
 mod svg;
+mod terminal;
 mod text;
 mod words;
 
@@ -24,6 +26,8 @@ use std::path::Path;
 use std::process::ExitCode;
 
 use circuit::Circuit;
+use files::Output;
+use line::visible;
 use midvokt::Refusal;
 use options::{Options, Request};
 use planning::View;
@@ -54,17 +58,23 @@ fn read(path: &Path, name: &str) -> Result<Circuit, String> {
     })
 }
 
-/// Writes a file, or says why it cannot.
-fn write(path: &Path, bytes: &[u8]) -> Result<(), String> {
-    files::write(path, bytes)
-        .map_err(|error| format!("{}: cannot be written: {error}\n", path.display()))
+/// Writes all files, or says which one cannot be written.
+fn write(outputs: &[Output<'_>]) -> Result<(), String> {
+    let name = |output: &Output<'_>| visible(&output.path.to_string_lossy());
+    files::write_all(outputs).map_err(|(failed, error)| {
+        let mut text = format!("{}: cannot be written: {error}\n", name(&outputs[failed]));
+        let others = outputs.iter().enumerate().filter(|(i, _)| *i != failed);
+        text.extend(others.map(|(_, other)| format!("{}: not written either\n", name(other))));
+        text
+    })
 }
 
 /// What is said of a refusal.
-fn refused(options: &Options, name: &str, circuit: &Circuit, refusal: &Refusal) -> Answer {
+fn refused(options: &Options, circuit: &Circuit, refusal: &Refusal) -> Answer {
+    let name = &options.circuit.to_string_lossy();
     let mut text = match options.json {
         true => json::refusal(name, circuit, refusal),
-        false => text::refusal(name, circuit, refusal),
+        false => text::refusal(&visible(name), circuit, refusal, &options.style),
     };
     if options.svg.is_some() && !options.json {
         text.push_str("  no picture is written, since there is no plan\n");
@@ -75,20 +85,24 @@ fn refused(options: &Options, name: &str, circuit: &Circuit, refusal: &Refusal) 
     }
 }
 
-/// Plans the circuit and gives the view that is asked for.
+/// Plans the circuit, writes the files that are asked for, and gives what is printed.
 fn show(options: &Options) -> Result<Answer, String> {
-    let name = options.circuit.display().to_string();
-    let circuit = read(&options.circuit, &name)?;
-    if let Some(path) = &options.words {
-        write(path, &words::encode(&circuit))?;
-    }
-    let view = match View::of(&name, &circuit) {
+    options
+        .files_differ()
+        .map_err(|message| format!("show: {message}\n"))?;
+    let name = options.circuit.to_string_lossy();
+    let circuit = read(&options.circuit, &visible(&name))?;
+    let view = View::of(&name, &circuit);
+    let output = |path, bytes| Some(Output { path, bytes });
+    let words = options.words.as_ref();
+    let words = words.and_then(|path| output(path, words::encode(&circuit)));
+    let svg = options.svg.as_ref().zip(view.as_ref().ok());
+    let svg = svg.and_then(|(path, view)| output(path, svg::picture(view).into_bytes()));
+    write(&[words, svg].into_iter().flatten().collect::<Vec<_>>())?;
+    let view = match view {
         Ok(view) => view,
-        Err(refusal) => return Ok(refused(options, &name, &circuit, &refusal)),
+        Err(refusal) => return Ok(refused(options, &circuit, &refusal)),
     };
-    if let Some(path) = &options.svg {
-        write(path, svg::picture(&view).as_bytes())?;
-    }
     let text = match options.json {
         true => json::plan(&view),
         false => text::plan(&view, &options.style),
@@ -104,6 +118,10 @@ fn answer() -> Result<Answer, String> {
     match options::parse(std::env::args_os().skip(1)) {
         Ok(Request::Help) => Ok(Answer {
             text: options::HELP.to_owned(),
+            status: PLANNED,
+        }),
+        Ok(Request::Version) => Ok(Answer {
+            text: format!("Midvokt {}\n", midvokt::VERSION),
             status: PLANNED,
         }),
         Ok(Request::Show(options)) => show(&options),

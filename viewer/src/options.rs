@@ -1,9 +1,13 @@
 //! The command line, and the screen that --help prints.
 
-use std::ffi::OsString;
+use std::ffi::{OsStr, OsString};
+use std::os::unix::ffi::{OsStrExt, OsStringExt};
 use std::path::PathBuf;
 
+use crate::files::{Identity, STANDARD_INPUT};
 use crate::lanes::Style;
+use crate::line::quoted;
+use crate::terminal;
 
 /// What --help prints.
 pub const HELP: &str = "\
@@ -11,36 +15,43 @@ show: plans a circuit through the proved library and shows the plan
 
   ./show [--json] [--svg FILE] [--words FILE] [--ascii] [--columns N] CIRCUIT
 
-CIRCUIT is a file, or - for standard input. One record a line; # begins a comment.
-  initial N              active coordinates at the start   (needed, before the records)
-  max N                  the dense peak is 2^N             (needed, before the records; no
-                         default, since it decides the choice; below 8 no record is read)
-  expvals N              expectation values; 0 if not given, otherwise no record is read
-  rotate PAULI ANGLE     exp(-i ANGLE PAULI); sin=S and cos=C replace those of ANGLE
+CIRCUIT is a file, or - for standard input. One record a line; # is a comment.
+  initial N              active coordinates at the start (needed, comes first)
+  max N                  the dense peak is 2^N (needed, comes first; no default,
+                         since it decides the choice; below 8 nothing is read)
+  expvals N              expectation values (0 if not given, else nothing read)
+  rotate PAULI ANGLE     exp(-i ANGLE PAULI); sin=S, cos=C in place of ANGLE's
   promote                a new active coordinate, behind the last position
   measure PAULI pivot N  the coordinate at position N leaves
   expect [PAULI]         an expectation: passed over by planning, as are
   record, detector, dormant   classical records and branches off the register
-PAULI  -_ZZ         a sign and a letter for each active coordinate, position 0 first, _ or I
-                    where nothing acts; a sign alone where no coordinate is active
+PAULI  -_ZZ         a sign and a letter for each active coordinate, position 0
+                    first, _ or I where nothing acts; a sign alone where no
+                    coordinate is active
        -Z1*Z2       the same as a product
-       z=6 phase=2  the same as masks (0x6 and 0b110 too) and exponent of i: X sets x, Z
-                    sets z, Y both; the sign - adds 2 to the exponent, i 1, each Y 1
+       z=6 phase=2  the same as masks (0x6, 0b110 too) and exponent of i: X sets
+                    x, Z sets z, Y both; the sign - adds 2 to it, i 1, each Y 1
 ANGLE  in radians: 0.25, or a part of pi: pi/8, -3pi/4
 
-It prints whether the circuit is selected, with both sides of each test; the works; the
-dimensions; a line a record; the components' lives as lanes; the final groups.
-  --json        the plan, or the refusal, for programs instead
+It prints the choice with both sides of each test; notes on what may be meant
+otherwise; works and dimensions; a line a record; the components' lives as
+lanes; the final groups.
+  --json        the plan, or the refusal, for programs instead (docs/JSON.md)
   --svg FILE    the lanes as a picture besides
-  --words FILE  head (3 words) and records (8 words each) besides, 64 bits, little-endian
+  --words FILE  head (3 words) and records (8 each) besides: 64 bits each,
+                little-endian
   --ascii       lanes without box characters
-  --columns N   how wide the lanes may be, 40 to 1000; 100 if not given
-Exit status: 0 planned; 1 refused; 2 a bad file (FILE:LINE:COLUMN: expected ..., found ...),
-an unreadable one or a bad option; 3 the viewer cannot be built.
+  --columns N   the text's width, 40 to 1000; else the terminal's, or 80
+  --version     the version
+--svg=FILE is --svg FILE; behind -- stands a circuit's name. A file may be
+neither the circuit nor another output; where one cannot be written, none is.
+Exit status: 0 planned; 1 refused; 2 a bad file (FILE:LINE:COLUMN: expected ...,
+found ...), an unreadable one or a bad option; 3 the viewer cannot be built.
 ";
 
-/// The least and the most columns.
+/// The least and the most columns, and those of text that goes to no terminal.
 const COLUMNS: std::ops::RangeInclusive<usize> = 40..=1000;
+const USUAL_COLUMNS: usize = 80;
 
 /// What the command line asks for.
 pub struct Options {
@@ -52,7 +63,7 @@ pub struct Options {
     pub words: Option<PathBuf>,
     /// Whether the plan is printed for programs.
     pub json: bool,
-    /// How the lanes are drawn.
+    /// How wide the text is and how the lanes are drawn.
     pub style: Style,
 }
 
@@ -60,8 +71,20 @@ pub struct Options {
 pub enum Request {
     /// Print the help.
     Help,
+    /// Print the version.
+    Version,
     /// Plan and show.
     Show(Options),
+}
+
+/// What a word of the command line leads to.
+enum Next {
+    /// The next word.
+    Word,
+    /// The circuit alone, behind --.
+    Circuit,
+    /// Nothing more is read.
+    Done(Request),
 }
 
 /// What has been read of the command line.
@@ -75,11 +98,42 @@ struct Reader {
     ascii: bool,
 }
 
-/// The word behind an option.
-fn value(name: &str, words: &mut impl Iterator<Item = OsString>) -> Result<OsString, String> {
-    words
-        .next()
-        .ok_or_else(|| format!("expected a word behind {name}, found nothing"))
+/// An option's name, and the value that stands behind = in the same word.
+fn parted(word: &OsStr) -> (String, Option<OsString>) {
+    let bytes = word.as_bytes();
+    let place = bytes.iter().position(|&byte| byte == b'=');
+    match place.filter(|_| bytes.starts_with(b"--")) {
+        Some(place) => (
+            String::from_utf8_lossy(&bytes[..place]).into_owned(),
+            Some(OsString::from_vec(bytes[place + 1..].to_vec())),
+        ),
+        None => (word.to_string_lossy().into_owned(), None),
+    }
+}
+
+/// The value of an option: what stands behind =, or else the next word.
+fn value(
+    name: &str,
+    given: Option<OsString>,
+    words: &mut impl Iterator<Item = OsString>,
+) -> Result<OsString, String> {
+    if let Some(value) = given {
+        return Ok(value);
+    }
+    match words.next() {
+        Some(word) if word.as_bytes().starts_with(b"--") => Err(format!(
+            "expected a word behind {name}, found {0}; {name}={1} takes it as the word",
+            shown(&word),
+            word.to_string_lossy().escape_debug()
+        )),
+        Some(word) => Ok(word),
+        None => Err(format!("expected a word behind {name}, found nothing")),
+    }
+}
+
+/// A word of the command line between quotes.
+fn shown(word: &OsStr) -> String {
+    quoted(&word.to_string_lossy())
 }
 
 /// Puts a value where none may stand yet.
@@ -91,72 +145,117 @@ fn once<T>(place: &mut Option<T>, name: &str, value: T) -> Result<(), String> {
 }
 
 /// A number of columns.
-fn columns(word: &OsString) -> Result<usize, String> {
+fn columns(word: &OsStr) -> Result<usize, String> {
     let number = word.to_str().and_then(|text| text.parse().ok());
     number
         .filter(|number| COLUMNS.contains(number))
         .ok_or_else(|| {
             format!(
-                "expected {} to {} behind --columns, found '{}'",
+                "expected {} to {} behind --columns, found {}",
                 COLUMNS.start(),
                 COLUMNS.end(),
-                word.to_string_lossy()
+                shown(word)
             )
         })
 }
 
 impl Reader {
-    /// One word of the command line; false where it asks for help.
+    /// One word of the command line.
     fn word(
         &mut self,
         word: OsString,
         words: &mut impl Iterator<Item = OsString>,
-    ) -> Result<bool, String> {
-        let text = word.to_string_lossy().into_owned();
-        match text.as_str() {
-            "--help" | "-h" => return Ok(false),
-            "--json" => self.json = true,
-            "--ascii" => self.ascii = true,
-            "--svg" => once(&mut self.svg, &text, value(&text, words)?.into())?,
-            "--words" => once(&mut self.words, &text, value(&text, words)?.into())?,
-            "--columns" => once(&mut self.columns, &text, columns(&value(&text, words)?)?)?,
-            _ if text.starts_with('-') && text != "-" => {
+    ) -> Result<Next, String> {
+        let (name, given) = parted(&word);
+        match name.as_str() {
+            "--svg" => once(&mut self.svg, &name, value(&name, given, words)?.into())?,
+            "--words" => once(&mut self.words, &name, value(&name, given, words)?.into())?,
+            "--columns" => {
+                let number = columns(&value(&name, given, words)?)?;
+                once(&mut self.columns, &name, number)?;
+            }
+            _ if given.is_some() && name != "--" => {
                 return Err(format!(
-                    "expected an option that --help tells, found '{text}'"
+                    "expected --svg=, --words= or --columns=, found {}",
+                    shown(&word)
                 ));
             }
-            _ => once(&mut self.circuit, "a circuit", word.into())?,
+            "--help" | "-h" => return Ok(Next::Done(Request::Help)),
+            "--version" => return Ok(Next::Done(Request::Version)),
+            "--json" => self.json = true,
+            "--ascii" => self.ascii = true,
+            "--" => return Ok(Next::Circuit),
+            _ if name.starts_with('-') && name != STANDARD_INPUT => {
+                return Err(format!(
+                    "expected an option that --help tells, found {}",
+                    shown(&word)
+                ));
+            }
+            _ => self.name(word)?,
         }
-        Ok(true)
+        Ok(Next::Word)
     }
 
-    /// The options, if a circuit is named and no file has two uses.
+    /// The circuit's name, which stands once.
+    fn name(&mut self, word: OsString) -> Result<(), String> {
+        once(&mut self.circuit, "a circuit", word.into())
+    }
+
+    /// The options, if a circuit is named.
     fn finish(self) -> Result<Options, String> {
         let circuit = self
             .circuit
             .ok_or("expected a circuit file or -, found none; --help tells more")?;
-        let uses = [
-            ("--svg", &self.svg, "that of --words", self.words.as_ref()),
-            ("--svg", &self.svg, "the circuit", Some(&circuit)),
-            ("--words", &self.words, "the circuit", Some(&circuit)),
-        ];
-        for (name, file, found, other) in uses {
-            if file.is_some() && file.as_ref() == other {
-                return Err(format!(
-                    "expected a file of its own for {name}, found {found}"
-                ));
-            }
-        }
+        let of_terminal = || terminal::columns().unwrap_or(USUAL_COLUMNS);
+        let columns = self.columns.unwrap_or_else(of_terminal);
         Ok(Options {
             circuit,
             svg: self.svg,
             words: self.words,
             json: self.json,
             style: Style {
-                columns: self.columns.unwrap_or(100),
+                columns: columns.clamp(*COLUMNS.start(), *COLUMNS.end()),
                 ascii: self.ascii,
             },
         })
+    }
+}
+
+impl Options {
+    /// The files that are written, each with the option that names it.
+    fn outputs(&self) -> Vec<(&'static str, &PathBuf)> {
+        let all = [("--svg", &self.svg), ("--words", &self.words)];
+        let named = all.map(|(name, file)| Some((name, file.as_ref()?)));
+        named.into_iter().flatten().collect()
+    }
+
+    /// Whether each output is a file of its own: neither the circuit, nor another output, nor
+    /// where the text is printed.
+    pub fn files_differ(&self) -> Result<(), String> {
+        let printed = "standard output, where the plan is printed".to_owned();
+        let mut known = vec![
+            (
+                Identity::of_circuit(&self.circuit),
+                "the circuit".to_owned(),
+            ),
+            (Identity::of_printed(), printed.clone()),
+        ];
+        for (name, path) in self.outputs() {
+            let found = Identity::of(path);
+            let is_found =
+                |(file, _): &&(Option<Identity>, String)| file.is_some() && *file == found;
+            let other = match path.as_os_str() == STANDARD_INPUT {
+                true => Some(&printed),
+                false => known.iter().find(is_found).map(|(_, other)| other),
+            };
+            if let Some(other) = other {
+                return Err(format!(
+                    "expected a file of its own for {name}, found {other}"
+                ));
+            }
+            known.push((found, format!("that of {name}")));
+        }
+        Ok(())
     }
 }
 
@@ -165,8 +264,10 @@ pub fn parse(words: impl Iterator<Item = OsString>) -> Result<Request, String> {
     let mut words = words;
     let mut reader = Reader::default();
     while let Some(word) = words.next() {
-        if !reader.word(word, &mut words)? {
-            return Ok(Request::Help);
+        match reader.word(word, &mut words)? {
+            Next::Word => {}
+            Next::Circuit => words.by_ref().try_for_each(|word| reader.name(word))?,
+            Next::Done(request) => return Ok(request),
         }
     }
     reader.finish().map(Request::Show)

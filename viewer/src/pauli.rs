@@ -2,6 +2,8 @@
 //! product of letters with positions. The sign and each Y go into the phase exponent, since a
 //! record's masks stand for the product of X and Z at each position.
 
+use std::collections::HashSet;
+
 use crate::line::{Fault, Word};
 
 /// The masks of a record have as many bits.
@@ -21,6 +23,29 @@ pub struct Pauli {
 }
 
 impl Pauli {
+    /// The same with no mask bit at or above a width.
+    pub fn within(self, width: u64) -> Self {
+        let low = match width {
+            0..MASK_BITS => (1 << width) - 1,
+            _ => u64::MAX,
+        };
+        Self {
+            x: self.x & low,
+            z: self.z & low,
+            ..self
+        }
+    }
+
+    /// Whether nothing acts.
+    pub fn is_identity(&self) -> bool {
+        self.x | self.z == 0
+    }
+
+    /// Whether it is its own adjoint: the exponent is even but for one for each Y.
+    pub fn is_hermitian(&self) -> bool {
+        u64::from((self.x & self.z).count_ones()) % 2 == self.phase % 2
+    }
+
     /// Puts a letter at a position where none acts yet; none if it is no letter.
     fn act(&mut self, letter: char, bit: u64) -> Option<()> {
         match letter {
@@ -94,20 +119,19 @@ fn bit(place: Word<'_>, letter: char, position: u64) -> Result<u64, Fault> {
 
 /// A letter for each active coordinate.
 fn read_string(body: Word<'_>, width: Option<u64>, pauli: &mut Pauli) -> Result<(), Fault> {
-    for (position, (byte, letter)) in body.text.char_indices().enumerate() {
-        let place = body.from(byte);
-        let position = position as u64;
+    let mut length = 0;
+    for (byte, letter) in body.text.char_indices() {
+        let place = body.at(byte, length as usize);
+        let alone = place.front(letter.len_utf8());
         if !"XYZI_".contains(letter) {
-            let letter = place.front(letter.len_utf8());
-            return Err(letter.fault(format!("{LETTERS}, or a product such as X0*X2")));
+            return Err(alone.fault(format!("{LETTERS}, or a product such as X0*X2")));
         }
-        if let Some(width) = width.filter(|&width| position >= width) {
+        if let Some(width) = width.filter(|&width| length >= width) {
             return Err(place.fault(format!("the Pauli to end here ({})", active(width))));
         }
-        let bit = bit(place.front(letter.len_utf8()), letter, position)?;
-        pauli.act(letter, bit);
+        pauli.act(letter, bit(alone, letter, length)?);
+        length += 1;
     }
-    let length = body.text.chars().count() as u64;
     match width {
         Some(width) if length < width => Err(body.fault_found(
             format!("{width} letters, one for each position ({})", active(width)),
@@ -129,20 +153,20 @@ fn read_factor(factor: Word<'_>) -> Result<(char, u64), Fault> {
 
 /// Factors with * between, each at its own position.
 fn read_product(body: Word<'_>, width: Option<u64>, pauli: &mut Pauli) -> Result<(), Fault> {
-    let mut seen = Vec::new();
-    let mut byte = 0;
+    let mut seen = HashSet::new();
+    let (mut byte, mut column) = (0, 0);
     for text in body.text.split('*') {
-        let factor = body.from(byte).front(text.len());
+        let factor = body.at(byte, column).front(text.len());
         byte += text.len() + 1;
+        column += text.chars().count() + 1;
         let (letter, position) = read_factor(factor)?;
         let place = factor.from(1);
         if let Some(width) = width.filter(|&width| position >= width) {
             return Err(place.fault(format!("a position below {width} ({})", active(width))));
         }
-        if seen.contains(&position) {
+        if !seen.insert(position) {
             return Err(place.fault_found("each position once", format!("{position} again")));
         }
-        seen.push(position);
         pauli.act(letter, bit(factor, letter, position)?);
     }
     Ok(())

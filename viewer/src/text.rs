@@ -3,23 +3,23 @@
 
 use std::fmt::Write;
 
-use midvokt::{ActiveComponentStepKind as Kind, Record, Refusal, MOST_RECORDS};
+use midvokt::{ActiveComponentStepKind as Kind, Reason, Record, Refusal, MOST_RECORDS};
 
 use crate::choice::{Choice, Test};
-use crate::circuit::Circuit;
+use crate::circuit::{Circuit, Placed};
 use crate::figures;
 use crate::lanes::{self, Style};
+use crate::line::visible;
 use crate::lives::{Deed, Event};
+use crate::notes;
 use crate::planning::View;
 
 /// The most characters of a record's own line, and of a local Pauli, that the table shows.
 const MOST_OF_LINE: usize = 32;
 const MOST_OF_PAULI: usize = 24;
-/// The most characters of a refused record's line that are shown.
+/// The most characters of a refused record's line that are shown, and the most notes.
 const MOST_REPEATED: usize = 80;
-
-/// The refusal of too many record words.
-const TOO_MANY_WORDS: u64 = 2;
+const MOST_NOTES: usize = 8;
 
 /// The circuit's name and size.
 fn heading(name: &str, circuit: &Circuit) -> String {
@@ -36,8 +36,23 @@ fn heading(name: &str, circuit: &Circuit) -> String {
     )
 }
 
+/// What may be meant otherwise, a line each; empty where nothing is to be said.
+fn noted(circuit: &Circuit, columns: usize) -> String {
+    let notes = notes::of(circuit);
+    let more = match notes.len().saturating_sub(MOST_NOTES) {
+        0 => None,
+        left => Some(format!(
+            "{} more; --json has them all",
+            figures::whole(left as u64)
+        )),
+    };
+    let told = notes.into_iter().take(MOST_NOTES).chain(more);
+    told.map(|note| figures::wrapped("Note: ", &note, columns))
+        .collect()
+}
+
 /// One test of the choice: verdict, name and both sides.
-fn test_line(test: &Test) -> String {
+fn test_line(test: &Test, columns: usize) -> String {
     let verdict = if test.passes { "pass" } else { "FAIL" };
     let (left, right) = test.sides();
     let origin = match test.origin.as_str() {
@@ -49,38 +64,44 @@ fn test_line(test: &Test) -> String {
     } else {
         ""
     };
-    format!(
-        "  {verdict}  {:<20}  {left}{rounded} {} {origin}{right}\n",
-        test.name, test.relation
+    figures::wrapped(
+        &format!("  {verdict}  {:<20}  ", test.name),
+        &format!("{left}{rounded} {} {origin}{right}", test.relation),
+        columns,
     )
 }
 
-/// How many of the tests fail.
+/// How many of the tests fail, and which.
 pub fn verdict(tests: &[Test]) -> String {
-    match tests.iter().filter(|test| !test.passes).count() {
-        0 => "all four tests pass, so the split pays".to_owned(),
-        1 => "1 of the four tests fails".to_owned(),
-        4 => "all four tests fail".to_owned(),
-        failed => format!("{failed} of the four tests fail"),
-    }
+    let failed = tests.iter().filter(|test| !test.passes);
+    let names: Vec<_> = failed.map(|test| test.name).collect();
+    let (count, verb) = match names.len() {
+        0 => return "all four tests pass, so the split pays".to_owned(),
+        4 => return "all four tests fail".to_owned(),
+        1 => (1, "fails"),
+        count => (count, "fail"),
+    };
+    format!("{count} of the four tests {verb}: {}", names.join(", "))
 }
 
 /// Whether the plan is selected, and why.
-fn choice(view: &View<'_>) -> String {
+fn choice(view: &View<'_>, columns: usize) -> String {
     let word = match view.plan.selected {
         true => "SELECTED",
         false => "NOT SELECTED",
     };
     let (tests, agrees) = match &view.choice {
         Choice::Unread(reason) => {
-            return format!("{word}: {reason}, so that planning reads no record\n");
+            let words = format!("{reason}, so that planning reads no record");
+            return figures::wrapped(&format!("{word}: "), &words, columns);
         }
         Choice::Tested { tests, agrees } => (tests, agrees),
     };
-    let mut text = format!("{word}: {}\n", verdict(tests));
-    text.extend(tests.iter().map(test_line));
+    let mut text = figures::wrapped(&format!("{word}: "), &verdict(tests), columns);
+    text.extend(tests.iter().map(|test| test_line(test, columns)));
     if !agrees {
-        text.push_str("  The tests computed here say otherwise than the plan. The plan counts.\n");
+        let words = "The tests computed here say otherwise than the plan. The plan counts.";
+        text.push_str(&figures::wrapped("  ", words, columns));
     }
     text
 }
@@ -110,20 +131,23 @@ pub fn comparison(dense: f64, component: f64) -> String {
 }
 
 /// The works and the dimensions.
-fn sizes(view: &View<'_>) -> String {
+fn sizes(view: &View<'_>, columns: usize) -> String {
     let plan = &view.plan;
     let (dense, component) = (plan.estimated_dense_work, plan.estimated_component_work);
     let widest = figures::count(view.circuit.widest(), "coordinate", "coordinates");
+    let peak = format!(
+        "{}, from max; the widest register has {widest}",
+        figures::dimension(plan.dense_peak_dimension as u64)
+    );
     format!(
-        "Work\n  dense        {}\n  components   {}\n  {}\n\n\
-         Dimensions\n  peak         {}\n  allocated    {}\n  dense peak   {}, from max; \
-         the widest register here has {widest}\n",
+        "Work\n  dense        {}\n  components   {}\n{}\n\
+         Dimensions\n  peak         {}\n  allocated    {}\n{}",
         figures::float(dense),
         figures::float(component),
-        comparison(dense, component),
+        figures::wrapped("  ", &comparison(dense, component), columns),
         figures::whole(plan.component_peak_live_dimension as u64),
         figures::whole(plan.component_allocated_dimension as u64),
-        figures::dimension(plan.dense_peak_dimension as u64),
+        figures::wrapped("  dense peak   ", &peak, columns),
     )
 }
 
@@ -178,32 +202,22 @@ pub fn outcome(view: &View<'_>, record: usize) -> String {
     }
 }
 
-/// One line a record.
-fn records(view: &View<'_>) -> String {
+/// One line a record, or more where the text is narrow.
+fn records(view: &View<'_>, columns: usize) -> String {
     let all = &view.circuit.records;
-    let shown: Vec<_> = all
-        .iter()
-        .map(|placed| figures::cut(&placed.text, MOST_OF_LINE))
-        .collect();
-    let length = |text: &String| text.chars().count();
-    let widest = shown
-        .iter()
-        .map(length)
-        .max()
-        .unwrap_or(0)
-        .max("circuit".len());
+    let most = MOST_OF_LINE.min(columns * 3 / 10);
+    let shown = all.iter().map(|placed| figures::cut(&placed.text, most));
+    let shown: Vec<_> = shown.collect();
+    let lengths = shown.iter().map(|text| text.chars().count());
+    let widest = lengths.fold("circuit".len(), usize::max);
     let mut text = format!(
         "Records\n  {:>4}  {:>4}  {:<widest$}  plan\n",
         "no.", "line", "circuit"
     );
     for (record, placed) in all.iter().enumerate() {
-        let outcome = outcome(view, record);
-        let shown = &shown[record];
-        let _ = writeln!(
-            text,
-            "  {record:>4}  {:>4}  {shown:<widest$}  {outcome}",
-            placed.line
-        );
+        let line = placed.line;
+        let first = format!("  {record:>4}  {line:>4}  {:<widest$}  ", shown[record]);
+        text.push_str(&figures::wrapped(&first, &outcome(view, record), columns));
     }
     text
 }
@@ -227,11 +241,14 @@ fn groups(view: &View<'_>) -> String {
 
 /// The whole view of a plan.
 pub fn plan(view: &View<'_>, style: &Style) -> String {
-    let mut parts = vec![heading(view.name, view.circuit), choice(view)];
+    let columns = style.columns;
+    let name = visible(view.name);
+    let mut parts = vec![heading(&name, view.circuit), choice(view, columns)];
+    parts.push(noted(view.circuit, columns));
     if let Choice::Tested { .. } = view.choice {
-        parts.push(sizes(view));
+        parts.push(sizes(view, columns));
         if !view.circuit.records.is_empty() {
-            parts.push(records(view));
+            parts.push(records(view, columns));
         }
         if !view.replay.lives.is_empty() {
             parts.push(lanes::picture(&view.replay, style));
@@ -242,56 +259,91 @@ pub fn plan(view: &View<'_>, style: &Style) -> String {
         parts.push(format!("Dimensions\n  dense peak   {peak}, from max\n"));
     }
     if !view.replay.agrees(&view.plan) {
-        parts
-            .push("The lanes drawn here do not agree with the plan. The plan counts.\n".to_owned());
+        let words = "The lanes drawn here do not agree with the plan. The plan counts.";
+        parts.push(figures::wrapped("", words, columns));
     }
+    parts.retain(|part| !part.is_empty());
     parts.join("\n")
 }
 
 /// The line of the head that a refusal is about, if it is about one.
 fn head_line(circuit: &Circuit, refusal: &Refusal) -> Option<usize> {
-    match refusal.number {
-        1 => Some(circuit.head_lines[1]),
-        4 => Some(circuit.head_lines[0]),
+    match refusal.reason {
+        Reason::MaxK => Some(circuit.head_lines[1]),
+        Reason::InitialK => Some(circuit.head_lines[0]),
         _ => None,
     }
 }
 
-/// A refusal in words, with the record's number and its line.
-pub fn refusal(name: &str, circuit: &Circuit, refusal: &Refusal) -> String {
-    let mut text = heading(name, circuit);
-    let placed = circuit
-        .records
-        .get(refusal.index)
-        .filter(|_| refusal.is_of_record());
-    let place = match (placed, head_line(circuit, refusal)) {
+/// Why a circuit is refused, in the words of its file.
+pub fn reason(circuit: &Circuit, refusal: &Refusal) -> String {
+    let words = match refusal.reason {
+        Reason::MaxK => "max is 62 or more",
+        Reason::RecordWords => {
+            let (found, most) = (circuit.records.len() as u64, MOST_RECORDS as u64);
+            let (found, most) = (figures::whole(found), figures::whole(most));
+            return format!("there are {found} records, and {most} is the most");
+        }
+        Reason::InitialK => "initial is more than 512",
+        Reason::Width => "a record that acts here needs 62 active coordinates or fewer",
+        Reason::Phase => "phase is more than 3",
+        Reason::Floats => "the angle is not finite, or sin or cos is not in -1 to 1",
+        Reason::Promotion => "this promote would make the 513th coordinate",
+        Reason::NothingActive => "no coordinate is active that could be measured",
+        Reason::Pivot => "the pivot is not below the number of active coordinates",
+        Reason::PivotX => "X or Y acts on the measured component, but not at the pivot",
+        Reason::PivotZ => "only Z acts on the measured component, and not at the pivot",
+        Reason::Eigenvalues => {
+            "only Z acts on the measured component, with phase 1 or 3 (a sign i)"
+        }
+        Reason::Identity => "no X, Y or Z acts on the measured component",
+        other => other.sentence(),
+    };
+    words.to_owned()
+}
+
+/// Where a circuit is refused.
+fn place(circuit: &Circuit, refusal: &Refusal) -> String {
+    match (
+        refused_record(circuit, refusal),
+        head_line(circuit, refusal),
+    ) {
         (Some(placed), _) => format!(
             " at record {} (the first is 0), on line {}",
             refusal.index, placed.line
         ),
         (None, Some(line)) => format!(" of the head, on line {line}"),
         (None, None) => " of the whole circuit".to_owned(),
-    };
-    let _ = write!(
+    }
+}
+
+/// The record that a refusal is about, if it is about one.
+pub fn refused_record<'a>(circuit: &'a Circuit, refusal: &Refusal) -> Option<&'a Placed> {
+    let placed = circuit.records.get(refusal.index);
+    placed.filter(|_| refusal.is_of_record())
+}
+
+/// A refusal in words, with the record's number and its line.
+pub fn refusal(name: &str, circuit: &Circuit, refusal: &Refusal, style: &Style) -> String {
+    let wrapped = |words: &str| figures::wrapped("  ", words, style.columns);
+    let mut text = heading(name, circuit);
+    let _ = writeln!(
         text,
-        "\nREFUSED: refusal {}{place}\n  {}\n",
-        refusal.number,
-        refusal.reason()
+        "\nREFUSED: refusal {}{}",
+        refusal.number(),
+        place(circuit, refusal)
     );
-    if refusal.number == TOO_MANY_WORDS {
-        let most = figures::whole(MOST_RECORDS as u64);
-        let _ = writeln!(text, "  a circuit may have {most} records");
-    }
-    if let Some(placed) = placed {
+    text.push_str(&wrapped(&reason(circuit, refusal)));
+    if let Some(placed) = refused_record(circuit, refusal) {
+        let line = figures::cut(&placed.text, MOST_REPEATED.min(style.columns));
+        text.push_str(&wrapped(&format!("{name}:{}: {line}", placed.line)));
         let active = figures::count(placed.width, "coordinate is", "coordinates are");
-        let _ = write!(
-            text,
-            "  {name}:{}: {}\n  {active} active there\n",
-            placed.line,
-            figures::cut(&placed.text, MOST_REPEATED)
-        );
+        text.push_str(&wrapped(&format!("{active} active there")));
     }
-    text
+    match noted(circuit, style.columns) {
+        notes if notes.is_empty() => text,
+        notes => format!("{text}\n{notes}"),
+    }
 }
 
 #[cfg(test)]
@@ -317,14 +369,43 @@ mod tests {
         assert_eq!(comparison(0.0, 34.0), "one wide register has no work");
     }
 
+    /// What is said of a circuit that is refused.
+    fn said(text: &str) -> String {
+        let circuit = circuit::parse(text.as_bytes()).unwrap();
+        let refused = View::of("-", &circuit).err().unwrap();
+        let style = Style {
+            columns: 80,
+            ascii: false,
+        };
+        refusal("-", &circuit, &refused, &style)
+    }
+
     #[test]
     fn a_refusal_of_the_head_names_its_line() {
-        let circuit = circuit::parse(b"initial 1\nmax 62\n").unwrap();
-        let refused = View::of("-", &circuit).err().unwrap();
-        let said = refusal("-", &circuit, &refused);
-        assert!(
-            said.contains("refusal 1 of the head, on line 2\n  max_k is 62 or more\n"),
-            "{said}"
-        );
+        let found = said("initial 1\nmax 62\n");
+        let wanted = "refusal 1 of the head, on line 2\n  max is 62 or more\n";
+        assert!(found.contains(wanted), "{found}");
+    }
+
+    #[test]
+    fn refusals_speak_of_what_the_file_has() {
+        let records = "record\n".repeat(1025);
+        let cases = [
+            ("initial 513\nmax 8\n", "  initial is more than 512\n"),
+            (
+                &format!("initial 1\nmax 8\n{records}"),
+                "1,025 records, and 1,024 is",
+            ),
+            (
+                "initial 1\nmax 8\nrotate x=1 phase=4 1",
+                "  phase is more than 3\n",
+            ),
+            ("initial 1\nmax 8\nrotate X 1 sin=2", "or sin or cos is not"),
+        ];
+        for (text, wanted) in cases {
+            let found = said(text);
+            assert!(found.contains(wanted), "{found}");
+            assert!(!found.contains("_k") && !found.contains("words"), "{found}");
+        }
     }
 }

@@ -4,7 +4,7 @@ use crate::plan::{
     ActiveComponentMeasurementStep, ActiveComponentPromotionStep, ActiveComponentRotationStep,
     ActiveComponentStepRef, MEASUREMENT_WORDS, ROTATION_WORDS, STEP_WORDS,
 };
-use crate::refusal::Refusal;
+use crate::refusal::{Reason, Refusal};
 use crate::words::Words;
 
 /// Words of a whole result: the refusal's record, then the eight scalar fields.
@@ -286,7 +286,7 @@ pub fn plan_into(
     match plan_words(head, records, buffers, &mut result) {
         0 => Ok(Summary::from_result(&result)),
         number => Err(Refusal {
-            number,
+            reason: Reason::from_number(number),
             index: result[0] as usize,
         }),
     }

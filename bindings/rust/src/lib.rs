@@ -13,7 +13,7 @@
 //! The types and fields of a plan have the names that the Rust simulator ticit gives them.
 //!
 //! ```
-//! use midvokt::{plan, Head, Record};
+//! use midvokt::{plan, Head, Reason, Record};
 //!
 //! let head = Head { initial_k: 3, max_k: 8, nexpvals: 0 };
 //! let records = [Record::rotation(3, 0b101, 0, 0, 0.0)];
@@ -22,7 +22,7 @@
 //! assert_eq!(plan.groups, [vec![0, 2], vec![1]]);
 //!
 //! let refused = midvokt::plan(&Head { max_k: 62, ..head }, &records).unwrap_err();
-//! assert_eq!(refused.number, 1);
+//! assert_eq!(refused.reason, Reason::MaxK);
 //! ```
 
 #![deny(unsafe_op_in_unsafe_fn)]
@@ -46,7 +46,10 @@ pub use plan::{
     ActiveComponentStepRef, MEASUREMENT_WORDS, ROTATION_WORDS, STEP_WORDS,
 };
 pub use record::{encode, ActiveMeasurement, Record, Rotation, MOST_RECORDS, RECORD_WORDS};
-pub use refusal::Refusal;
+pub use refusal::{Reason, Refusal};
+
+/// The version of the project.
+pub const VERSION: &str = env!("CARGO_PKG_VERSION");
 
 // Words become usize and back without loss; the library is built for such machines only.
 const _: () = assert!(usize::BITS == u64::BITS);

@@ -3,7 +3,7 @@
 
 use midvokt::{
     encode, plan, plan_encoded, plan_into, plan_words, ActiveComponentStepKind, Buffers, Complex,
-    Head, Lengths, Record, RESULT_WORDS,
+    Head, Lengths, Reason, Record, RESULT_WORDS,
 };
 
 /// A head with so many coordinates at the start, and max_k 8.
@@ -131,17 +131,28 @@ fn lent_buffers_give_the_same_plan() {
 }
 
 #[test]
-fn refusals_have_number_and_record() {
+fn refusals_have_reason_and_record() {
     let refused = |initial_k, records: &[Record]| plan(&head(initial_k), records).unwrap_err();
     let found = refused(2, &[Record::Promotion, Record::measurement(3, 0, 0, 0, 0)]);
-    assert_eq!((found.number, found.index), (20, 1));
-    assert_eq!(refused(2, &[Record::measurement(2, 0, 0, 0, 1)]).number, 16);
-    assert_eq!(refused(0, &[Record::measurement(0, 0, 0, 0, 0)]).number, 13);
+    assert_eq!((found.reason, found.index), (Reason::Identity, 1));
+    assert_eq!(
+        found.to_string(),
+        "refusal 20 at record 1: the measured masks are both 0"
+    );
+    let found = refused(2, &[Record::measurement(2, 0, 0, 0, 1)]);
+    assert_eq!((found.number(), found.is_of_record()), (16, true));
+    assert_eq!(found.sentence(), found.reason.sentence());
+    let found = refused(0, &[Record::measurement(0, 0, 0, 0, 0)]);
+    assert_eq!(found.reason, Reason::NothingActive);
     assert_eq!(
         refused(513, &[]).to_string(),
         "refusal 4: initial_k is more than 512"
     );
-    assert_eq!(refused(0, &vec![Record::RecordDetector; 1025]).number, 2);
+    let found = refused(0, &vec![Record::RecordDetector; 1025]);
+    assert_eq!(
+        (found.reason, found.is_of_record()),
+        (Reason::RecordWords, false)
+    );
 }
 
 #[test]

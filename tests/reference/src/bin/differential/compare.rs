@@ -122,7 +122,7 @@ impl Comparison {
         match (plan_encoded(&head(program), &program.words), answer) {
             (Ok(ours), Answer::Plan(theirs)) => dropin::difference(&ours, theirs),
             (Err(ours), Answer::Refused(theirs)) => {
-                let same = (ours.number, ours.index) == (theirs.number, theirs.index);
+                let same = (ours.number(), ours.index) == (theirs.number, theirs.index);
                 (!same).then(|| format!("the typed call gives {ours:?}"))
             }
             (ours, _) => Some(format!("the typed call gives {:?}", ours.map(|_| "a plan"))),
