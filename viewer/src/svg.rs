@@ -11,7 +11,9 @@ use crate::text;
 
 /// Where the first lane begins.
 const LEFT: f64 = 52.0;
-const TOP: f64 = 112.0;
+const TOP: f64 = 130.0;
+/// Where the words of the heading begin.
+const MARGIN: f64 = 16.0;
 /// Room for words behind the lanes, and for the legend below them.
 const RIGHT: f64 = 170.0;
 const LEGEND: f64 = 96.0;
@@ -19,11 +21,20 @@ const LEGEND: f64 = 96.0;
 const LEAST_WIDTH: f64 = 900.0;
 /// The least distance between two numbers on the axis.
 const TICK: f64 = 26.0;
+/// After so many lanes the record numbers stand again, in a row of this height.
+const LANES_PER_AXIS: usize = 28;
+const AXIS: f64 = 24.0;
+/// The width of a column in which the lane numbers stand again.
+const RULER: f64 = 30.0;
+/// About the width of a character of the title, by its own size.
+const TITLE: f64 = 18.0;
 
 /// Distances by the number of records and components.
 struct Layout {
     step: f64,
     lane: f64,
+    /// After so many columns the lane numbers stand again.
+    ruler: usize,
     events: usize,
     lanes: usize,
 }
@@ -31,11 +42,11 @@ struct Layout {
 impl Layout {
     /// Distances at which the picture stays readable.
     fn of(events: usize, lanes: usize) -> Self {
-        let step = match events {
-            0..=24 => 34.0,
-            25..=48 => 22.0,
-            49..=120 => 15.0,
-            _ => 10.0,
+        let (step, ruler) = match events {
+            0..=24 => (34.0, usize::MAX),
+            25..=48 => (22.0, usize::MAX),
+            49..=120 => (15.0, 40),
+            _ => (10.0, 48),
         };
         let lane = match lanes {
             0..=16 => 30.0,
@@ -45,6 +56,7 @@ impl Layout {
         Self {
             step,
             lane,
+            ruler,
             events,
             lanes,
         }
@@ -52,22 +64,45 @@ impl Layout {
 
     /// The middle of an event's column.
     fn x(&self, place: usize) -> f64 {
-        LEFT + self.step * (place as f64 + 1.0)
+        let rulers = place / self.ruler;
+        LEFT + self.step * (place as f64 + 1.0) + RULER * rulers as f64
     }
 
     /// The middle of a component's lane.
     fn y(&self, component: usize) -> f64 {
-        TOP + self.lane * (component as f64 + 0.5)
+        let axes = component / LANES_PER_AXIS;
+        TOP + self.lane * (component as f64 + 0.5) + AXIS * axes as f64
+    }
+
+    /// The rows of lanes between one axis and the next: where each begins and stops.
+    fn blocks(&self) -> Vec<(f64, f64)> {
+        let firsts = (0..self.lanes.max(1)).step_by(LANES_PER_AXIS);
+        let block = |first: usize| {
+            let top = self.y(first) - self.lane * 0.5;
+            let lanes = LANES_PER_AXIS.min(self.lanes - first);
+            (top, top + self.lane * lanes as f64)
+        };
+        firsts.map(block).collect()
+    }
+
+    /// The first event behind each ruler, and the ruler's middle.
+    fn rulers(&self) -> Vec<(usize, f64)> {
+        let behind = (self.ruler..self.events).step_by(self.ruler);
+        let middle = |place: usize| (self.x(place - 1) + self.x(place)) * 0.5;
+        behind.map(|place| (place, middle(place))).collect()
     }
 
     /// Where lanes that live to the end stop.
     fn end(&self) -> f64 {
-        self.x(self.events)
+        match self.events {
+            0 => self.x(0),
+            events => self.x(events - 1) + self.step,
+        }
     }
 
     /// Where the lanes' rows stop.
     fn bottom(&self) -> f64 {
-        TOP + self.lane * self.lanes as f64
+        self.blocks().last().map_or(TOP, |&(_, bottom)| bottom)
     }
 
     /// Half the height of a mark.
@@ -130,6 +165,23 @@ impl Picture<'_> {
         self.words(place, &more, words);
     }
 
+    /// Adds a number on white, so that lines behind it do not hide it.
+    fn number(&mut self, (x, base): (f64, f64), font: f64, anchor: &str, number: usize) {
+        let number = number.to_string();
+        let width = font * 0.6 * number.len() as f64 + 2.0;
+        let left = match anchor {
+            "end" => x - width + 1.0,
+            _ => x - width * 0.5,
+        };
+        self.add(&format!(
+            "<rect x=\"{left:.1}\" y=\"{:.1}\" width=\"{width:.1}\" height=\"{:.1}\" \
+             fill=\"{WHITE}\"/>",
+            base - font * 0.8,
+            font * 0.9
+        ));
+        self.grey_words((x, base), font, anchor, &number);
+    }
+
     /// The column of a record that has one.
     fn column(&self, record: usize) -> f64 {
         let events = &self.view.replay.events;
@@ -153,30 +205,83 @@ impl Picture<'_> {
             }
         };
         let works = format!(
-            "work {} dense, {} in components; dimensions: peak {}, allocated {}, dense peak {}",
+            "work: {} dense, {} in components",
             figures::float(dense),
-            figures::float(component),
+            figures::float(component)
+        );
+        let dimensions = format!(
+            "dimensions: peak {}, allocated {}, dense peak {}",
             figures::whole(plan.component_peak_live_dimension as u64),
             figures::whole(plan.component_allocated_dimension as u64),
             figures::dimension(plan.dense_peak_dimension as u64)
         );
-        let title = format!("Components of {}", self.view.name);
-        let bold = "font-size=\"18\" font-weight=\"bold\"";
-        self.words((16.0, 28.0), bold, &title);
-        self.words((16.0, 49.0), "font-size=\"13\"", &why);
-        self.grey_words((16.0, 67.0), 12.0, "start", &works);
-        self.grey_words((LEFT - 6.0, TOP - 8.0), 12.0, "end", "record");
+        let title = format!("Components of {}", self.short_name());
+        let bold = format!("font-size=\"{TITLE}\" font-weight=\"bold\"");
+        self.words((MARGIN, 28.0), &bold, &title);
+        self.words((MARGIN, 49.0), "font-size=\"13\"", &why);
+        self.grey_words((MARGIN, 67.0), 12.0, "start", &works);
+        self.grey_words((MARGIN, 84.0), 12.0, "start", &dimensions);
     }
 
-    /// Record numbers with faint lines, so many apart that they can be read.
-    fn axis(&mut self) {
+    /// The circuit's name, or its end where it is too long for the title.
+    fn short_name(&self) -> String {
+        let room = (self.layout.size().0 - 2.0 * MARGIN) / TITLE;
+        // A Latin letter is about 0.6 of its size wide; others may be as wide as high.
+        let width = |character: char| if character.is_ascii() { 0.6 } else { 1.0 };
+        let of = |text: &str| text.chars().map(width).sum::<f64>();
+        let room = room - of("Components of ");
+        let name = self.view.name;
+        if of(name) <= room {
+            return name.to_owned();
+        }
+        let starts = name.char_indices().map(|(start, _)| &name[start..]);
+        let fits = |rest: &&str| of(rest) + of("...") <= room;
+        format!("...{}", starts.into_iter().find(fits).unwrap_or(""))
+    }
+
+    /// Record numbers above each block of lanes with faint lines, so many apart that they can
+    /// be read.
+    fn axes(&mut self) {
         let every = (TICK / self.layout.step).ceil() as usize;
-        for place in (0..self.layout.events).step_by(every) {
-            let x = self.layout.x(place);
-            let path = format!("M{x:.1} {:.1}V{:.1}", TOP - 3.0, self.layout.bottom());
+        for (top, bottom) in self.layout.blocks() {
+            let base = top - 8.0;
+            self.grey_words((LEFT - 6.0, base), 12.0, "end", "record");
+            for place in (0..self.layout.events).step_by(every) {
+                let x = self.layout.x(place);
+                let path = format!("M{x:.1} {:.1}V{bottom:.1}", top - 3.0);
+                self.add(&line(&path, FAINT, 1.0));
+            }
+            let path = format!("M{LEFT:.1} {:.1}H{:.1}", top - 3.0, self.layout.end());
             self.add(&line(&path, FAINT, 1.0));
-            let record = self.view.replay.events[place].record.to_string();
-            self.grey_words((x, TOP - 8.0), 11.0, "middle", &record);
+        }
+    }
+
+    /// The numbers of the axes, over the joins that cross them.
+    fn axis_numbers(&mut self) {
+        let every = (TICK / self.layout.step).ceil() as usize;
+        for (top, _) in self.layout.blocks() {
+            self.add("<g class=\"axis\">");
+            for place in (0..self.layout.events).step_by(every) {
+                let record = self.view.replay.events[place].record;
+                self.number((self.layout.x(place), top - 8.0), 11.0, "middle", record);
+            }
+            self.add("</g>");
+        }
+    }
+
+    /// The numbers of the lanes that go through each ruler.
+    fn rulers(&mut self) {
+        let font = self.layout.font();
+        for (place, x) in self.layout.rulers() {
+            let record = self.view.replay.events[place].record;
+            self.add("<g class=\"ruler\">");
+            for (component, life) in self.view.replay.lives.iter().enumerate() {
+                if life.before(record) {
+                    let base = self.layout.y(component) + font * 0.35;
+                    self.number((x, base), font, "middle", component);
+                }
+            }
+            self.add("</g>");
         }
     }
 
@@ -250,6 +355,10 @@ impl Picture<'_> {
         let number = format!("font-size=\"{font:.1}\" text-anchor=\"end\"");
         let base = y + font * 0.35;
         self.words((LEFT - 7.0, base), &number, &component.to_string());
+        if let Some(born) = life.born {
+            let x = self.column(born) - self.layout.mark() - 3.0;
+            self.number((x, base), font, "end", component);
+        }
         let fate = fate(&self.view.replay.members[component], life);
         self.grey_words((end + 10.0, base), font, "start", &fate);
     }
@@ -305,9 +414,10 @@ impl Picture<'_> {
              <title>{about}</title>{shape}</g>"
         ));
         if !event.joined.is_empty() && self.layout.shows_sizes() {
-            let above = y - self.layout.lane * 0.33;
-            let members = event.members.len().to_string();
-            self.words((x + 5.0, above), "font-size=\"10\"", &members);
+            let members = event.members.len();
+            let below = y + self.layout.thickness(members) * 0.5 + 8.0;
+            let more = "class=\"members\" font-size=\"10\"";
+            self.words((x + 5.0, below), more, &members.to_string());
         }
     }
 
@@ -348,7 +458,7 @@ impl Picture<'_> {
         }
         let columns = "Records that concern no component have no column.";
         let sizes = match self.layout.shows_sizes() {
-            true => " A number above a mark: the members after the join.",
+            true => " A number below a mark: the members after the join.",
             false => "",
         };
         let words = format!("{columns}{sizes}");
@@ -402,13 +512,15 @@ pub fn picture(view: &View<'_>) -> String {
         "<rect width=\"100%\" height=\"100%\" fill=\"{WHITE}\"/>"
     ));
     picture.heading();
-    picture.axis();
+    picture.axes();
     for (component, life) in replay.lives.iter().enumerate() {
         picture.lane(component, life);
     }
     for event in &replay.events {
         picture.joins(event);
     }
+    picture.axis_numbers();
+    picture.rulers();
     for event in &replay.events {
         picture.mark(event);
     }
@@ -438,5 +550,24 @@ mod tests {
         assert!(drawn
             .contains("data-component=\"3\" data-born=\"2\" data-end=\"emptied\" data-at=\"3\""));
         assert!(drawn.contains("Components of a&lt;b") && !drawn.contains("a<b"));
+    }
+
+    /// The words that a picture of nothing has above it for a name.
+    fn titled(name: &str) -> String {
+        let circuit = circuit::parse(b"initial 3\nmax 8\n").unwrap();
+        let drawn = picture(&View::of(name, &circuit).unwrap());
+        let (_, rest) = drawn.split_once("font-weight=\"bold\">").unwrap();
+        rest.split_once('<').unwrap().0.to_owned()
+    }
+
+    #[test]
+    fn a_long_name_is_cut_in_front() {
+        assert_eq!(titled("a/b.circuit"), "Components of a/b.circuit");
+        let long = titled(&format!("{}/b.circuit", "folder/".repeat(50)));
+        assert!(long.starts_with("Components of ...") && long.ends_with("/b.circuit"));
+        let width = |title: &str| title.chars().count() as f64 * TITLE;
+        assert!(width(&long) * 0.6 < LEAST_WIDTH && width(&long) > LEAST_WIDTH);
+        let wide = titled(&"\u{4e00}".repeat(300));
+        assert!(wide.contains("...\u{4e00}") && width(&wide) < LEAST_WIDTH + 14.0 * TITLE);
     }
 }
