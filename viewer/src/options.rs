@@ -117,17 +117,15 @@ fn value(
     given: Option<OsString>,
     words: &mut impl Iterator<Item = OsString>,
 ) -> Result<OsString, String> {
-    if let Some(value) = given {
-        return Ok(value);
-    }
-    match words.next() {
-        Some(word) if word.as_bytes().starts_with(b"--") => Err(format!(
+    let is_given = given.is_some();
+    match given.or_else(|| words.next()) {
+        Some(word) if !is_given && word.as_bytes().starts_with(b"--") => Err(format!(
             "expected a word behind {name}, found {0}; {name}={1} takes it as the word",
             shown(&word),
             word.to_string_lossy().escape_debug()
         )),
-        Some(word) => Ok(word),
-        None => Err(format!("expected a word behind {name}, found nothing")),
+        Some(word) if !word.is_empty() => Ok(word),
+        _ => Err(format!("expected a word behind {name}, found nothing")),
     }
 }
 
@@ -198,6 +196,9 @@ impl Reader {
 
     /// The circuit's name, which stands once.
     fn name(&mut self, word: OsString) -> Result<(), String> {
+        if word.is_empty() {
+            return Err("expected a circuit file or -, found ''".to_owned());
+        }
         once(&mut self.circuit, "a circuit", word.into())
     }
 
