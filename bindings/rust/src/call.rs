@@ -1,10 +1,10 @@
 //! The call of the proved library over lent buffers, with nothing allocated.
 
-use crate::plan::{
+use crate::refusal::{Reason, Refusal};
+use crate::rows::{
     ActiveComponentMeasurementStep, ActiveComponentPromotionStep, ActiveComponentRotationStep,
     ActiveComponentStepRef, MEASUREMENT_WORDS, ROTATION_WORDS, STEP_WORDS,
 };
-use crate::refusal::{Reason, Refusal};
 use crate::words::Words;
 
 /// Words of a whole result: the refusal's record, then the eight scalar fields.
@@ -48,15 +48,16 @@ pub struct Lengths {
 }
 
 impl Lengths {
-    /// The least lengths that are enough for so many records.
+    /// The least lengths that are enough for so many records. A length that no usize holds is
+    /// the greatest one; so many records are refused whatever the buffers.
     pub const fn for_records(records: usize) -> Self {
         Self {
-            steps: STEP_WORDS * records,
-            merges: records + 512,
+            steps: records.saturating_mul(STEP_WORDS),
+            merges: records.saturating_add(512),
             sizes: 512,
-            rotations: ROTATION_WORDS * records,
+            rotations: records.saturating_mul(ROTATION_WORDS),
             promotions: records,
-            measurements: MEASUREMENT_WORDS * records,
+            measurements: records.saturating_mul(MEASUREMENT_WORDS),
             groups: 1024,
         }
     }
@@ -289,5 +290,29 @@ pub fn plan_into(
             reason: Reason::from_number(number),
             index: result[0] as usize,
         }),
+    }
+}
+
+#[cfg(test)]
+mod tests {
+    use super::Lengths;
+
+    #[test]
+    fn lengths_grow_with_the_records() {
+        let most = Lengths::for_records(1024).in_order();
+        assert_eq!(most, [2048, 1536, 512, 21_504, 1024, 19_456, 1024]);
+        let none = Lengths::for_records(0).in_order();
+        assert_eq!(none, [0, 512, 512, 0, 0, 0, 1024]);
+    }
+
+    #[test]
+    fn lengths_end_at_the_greatest_size() {
+        let all = usize::MAX;
+        let found = Lengths::for_records(all).in_order();
+        assert_eq!(found, [all, all, 512, all, all, all, 1024]);
+        let fits = all / 21;
+        assert_eq!(Lengths::for_records(fits).rotations, fits * 21);
+        assert_eq!(Lengths::for_records(fits + 1).rotations, all);
+        assert_eq!(Lengths::for_records(all - 512).merges, all);
     }
 }

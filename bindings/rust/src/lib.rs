@@ -5,14 +5,13 @@
 //!
 //! Two ways to call it:
 //!
-//! * [`plan`] takes a head and records, allocates its own buffers and returns an owned
-//!   [`ActiveComponentPlan`].
+//! * `plan` takes a head and records, allocates its own buffers and returns an owned
+//!   `ActiveComponentPlan`.
 //! * [`plan_into`] takes record words and [`Buffers`] that the caller lends, and allocates
 //!   nothing. The rows are then read from the buffers, one at a time.
 //!
-//! The types and fields of a plan have the names that the Rust simulator ticit gives them.
-//!
 //! ```
+//! # #[cfg(feature = "std")] {
 //! use midvokt::{plan, Head, Reason, Record};
 //!
 //! let head = Head { initial_k: 3, max_k: 8, nexpvals: 0 };
@@ -23,33 +22,152 @@
 //!
 //! let refused = midvokt::plan(&Head { max_k: 62, ..head }, &records).unwrap_err();
 //! assert_eq!(refused.reason, Reason::MaxK);
+//! # }
+//! ```
+//!
+//! # Coordinates, positions, components
+//!
+//! A coordinate is one qubit of the register, by a number that it keeps for good. `initial_k`
+//! coordinates are active at the start, numbered from 0; each promotion makes the next number.
+//! A position counts the active coordinates in their order, from 0: a promotion appends its
+//! coordinate behind the last position; a measurement takes the coordinate at its pivot away,
+//! and those behind it move down by one position. Masks and pivots of records speak of
+//! positions: bit p of a mask is the coordinate that is at position p before the record.
+//!
+//! A component is a set of coordinates that the simulator keeps in one small register: its
+//! member j is bit j of that register and of the masks in a row. Coordinate c begins alone in
+//! component c. A record joins the components that it touches: members of the others are
+//! appended to those of the largest (on a tie, the one of the smallest number), which keeps its
+//! number; the others' numbers are not used again.
+//!
+//! # Paulis and angles
+//!
+//! A record's Pauli is P = i^phase X^x Z^z, X in front of Z at each position: a bit in `x` alone
+//! is X, in `z` alone Z. A bit in both is XZ = -iY, so each Y needs 1 more in the phase:
+//!
+//! | P | x | z | phase |
+//! |---|---|---|---|
+//! | X0 | 1 | 0 | 0 |
+//! | -Z0 Z1 | 0 | 3 | 2 |
+//! | Y0 | 1 | 1 | 1 |
+//! | Y0 Y1 | 3 | 3 | 2 |
+//! | X0 Y2 | 5 | 4 | 1 |
+//! | -Y1 | 2 | 2 | 3 |
+//!
+//! Y0 with phase 0 would be -iY0, which is not Hermitian; it is planned as it stands, and no
+//! refusal tells. P is Hermitian where the phase and the number of bits in both masks are both
+//! even or both odd.
+//!
+//! A rotation is exp(-i angle P): a gate that turns by theta, exp(-i theta/2 P), has the angle
+//! theta/2. The sine and cosine of a record are sin(angle) and cos(angle) of that same angle.
+//!
+//! ```
+//! # #[cfg(feature = "std")] {
+//! use midvokt::{plan, Complex, Head, Record};
+//!
+//! let head = Head { initial_k: 1, max_k: 8, nexpvals: 0 };
+//! let theta = 0.5;
+//! // Y0, turned by theta: x = 1, z = 1, phase = 1.
+//! let plan = plan(&head, &[Record::rotation(1, 1, 1, 1, theta / 2.0)]).unwrap();
+//! let kernel = &plan.rotations[0].kernel;
+//! assert_eq!(kernel.action.even_phase, Complex::new(0.0, 1.0));
+//! assert!(kernel.real_pair_flip);
+//! # }
+//! ```
+//!
+//! # What is the Rust simulator's
+//!
+//! The plan, its rows and their kernels have the names, fields, methods and defaults that the
+//! Rust simulator ticit gives them, and `groups` is added. What makes a kernel from a Pauli
+//! string is left out: kernels come from the proved library.
+//!
+//! # Features
+//!
+//! The crate is `no_std`. Without features it has [`plan_into`], [`plan_words`], the rows and
+//! [`Record::encode`], allocates nothing and depends on nothing.
+//!
+//! * `alloc`: owned plans, which are `plan`, `plan_encoded` and `ActiveComponentPlan`, and
+//!   `encode`, which gives the words of all records.
+//! * `std`, on unless turned off: `alloc`, and `Record::rotation`, which computes sine and
+//!   cosine. Without it the caller gives them in [`Rotation`].
+//! * `num-complex`: [`Complex`] is the `Complex64` of the crate num-complex 0.4, the only
+//!   dependency there is.
+//!
+//! Without `alloc`:
+//!
+//! ```
+//! use midvokt::{plan_into, Buffers, Head, Lengths, Record, Rotation, RECORD_WORDS};
+//!
+//! const LENGTHS: Lengths = Lengths::for_records(2);
+//! let turn = Rotation { width: 3, x: 5, z: 0, phase: 0, angle: 0.0, sine: 0.0, cosine: 1.0 };
+//! let records = [Record::Rotation(turn), Record::measurement(3, 0, 6, 0, 2)];
+//! let mut words = [0; 2 * RECORD_WORDS];
+//! for (eight, record) in words.chunks_exact_mut(RECORD_WORDS).zip(&records) {
+//!     eight.copy_from_slice(&record.encode());
+//! }
+//! let mut buffers = Buffers {
+//!     steps: &mut [0; LENGTHS.steps],
+//!     merges: &mut [0; LENGTHS.merges],
+//!     sizes: &mut [0; LENGTHS.sizes],
+//!     rotations: &mut [0; LENGTHS.rotations],
+//!     promotions: &mut [0; LENGTHS.promotions],
+//!     measurements: &mut [0; LENGTHS.measurements],
+//!     groups: &mut [0; LENGTHS.groups],
+//! };
+//! let head = Head { initial_k: 3, max_k: 8, nexpvals: 0 };
+//! let summary = plan_into(&head, &words, &mut buffers).unwrap();
+//! assert_eq!(summary.component_peak_live_dimension, 8);
+//! assert_eq!(buffers.measurement(0).unwrap().kernel.pivot, 1);
+//! assert!(buffers.groups().eq([[0, 1]]));
 //! ```
 
+#![no_std]
 #![deny(unsafe_op_in_unsafe_fn)]
 #![warn(missing_docs)]
 
+#[cfg(feature = "alloc")]
+extern crate alloc;
+#[cfg(any(feature = "std", test))]
+extern crate std;
+
 mod call;
+#[cfg(not(feature = "num-complex"))]
+mod complex;
 mod kernels;
+#[cfg(feature = "alloc")]
 mod plan;
 mod record;
 mod refusal;
+mod rows;
 mod words;
 
 pub use call::{plan_into, plan_words, Buffers, Groups, Head, Lengths, Summary, RESULT_WORDS};
+#[cfg(not(feature = "num-complex"))]
+pub use complex::Complex;
 pub use kernels::{
-    ActivePauliAction, Complex, PrecomputedActivePauliMeasurementKernel,
+    insert_zero_bit, ActivePauliAction, PrecomputedActivePauliMeasurementKernel,
     PrecomputedActivePauliRotationKernel,
 };
-pub use plan::{
-    plan, plan_encoded, ActiveComponentMeasurementStep, ActiveComponentPlan,
-    ActiveComponentPromotionStep, ActiveComponentRotationStep, ActiveComponentStepKind,
-    ActiveComponentStepRef, MEASUREMENT_WORDS, ROTATION_WORDS, STEP_WORDS,
-};
-pub use record::{encode, ActiveMeasurement, Record, Rotation, MOST_RECORDS, RECORD_WORDS};
+#[cfg(feature = "num-complex")]
+pub use num_complex::Complex64 as Complex;
+#[cfg(feature = "alloc")]
+pub use plan::{plan, plan_encoded, ActiveComponentPlan};
+#[cfg(feature = "alloc")]
+pub use record::encode;
+pub use record::{ActiveMeasurement, Record, Rotation, MOST_RECORDS, RECORD_WORDS};
 pub use refusal::{Reason, Refusal};
+pub use rows::{
+    ActiveComponentMeasurementStep, ActiveComponentPromotionStep, ActiveComponentRotationStep,
+    ActiveComponentStepKind, ActiveComponentStepRef, MEASUREMENT_WORDS, ROTATION_WORDS, STEP_WORDS,
+};
 
 /// The version of the project.
 pub const VERSION: &str = env!("CARGO_PKG_VERSION");
 
 // Words become usize and back without loss; the library is built for such machines only.
 const _: () = assert!(usize::BITS == u64::BITS);
+
+/// Has the examples of the README tried too.
+#[cfg(all(doctest, feature = "std"))]
+#[doc = include_str!("../README.md")]
+struct Readme;

@@ -1,12 +1,19 @@
 //! The records of a program: six kinds, each encoded as eight words.
 
+#[cfg(feature = "alloc")]
+use alloc::vec::Vec;
+
 /// Words in a record.
 pub const RECORD_WORDS: usize = 8;
 
 /// The most records that a program may have.
 pub const MOST_RECORDS: usize = 1024;
 
-/// A rotation about a Pauli string over the active coordinates.
+/// The rotation exp(-i angle P) about a Pauli string over the active coordinates.
+///
+/// P is i^phase X^x Z^z, X in front of Z at each position. A bit in both masks is XZ = -iY, so
+/// each Y needs 1 more in the phase: Y0 is x = 1, z = 1, phase = 1. A gate that turns by theta
+/// has the angle theta/2.
 #[derive(Clone, Copy, Debug, PartialEq)]
 pub struct Rotation {
     /// The number of active coordinates.
@@ -15,17 +22,18 @@ pub struct Rotation {
     pub x: u64,
     /// The z mask; bits at or above the width count for nothing.
     pub z: u64,
-    /// The phase exponent, 0 to 3.
+    /// The phase exponent, 0 to 3, with 1 for each Y.
     pub phase: u64,
-    /// The kernel's angle.
+    /// The angle of exp(-i angle P): half of what a gate turns by.
     pub angle: f64,
-    /// The sine of the angle, which planning carries and does not compute.
+    /// sin(angle), which planning carries and does not compute.
     pub sine: f64,
-    /// The cosine of the angle, which planning carries and does not compute.
+    /// cos(angle), which planning carries and does not compute.
     pub cosine: f64,
 }
 
-/// A measurement of a Pauli string over the active coordinates.
+/// A measurement of a Pauli string over the active coordinates, with a phase as a [`Rotation`]
+/// has it: Y0 is x = 1, z = 1, phase = 1.
 #[derive(Clone, Copy, Debug, PartialEq, Eq)]
 pub struct ActiveMeasurement {
     /// The number of active coordinates.
@@ -34,7 +42,7 @@ pub struct ActiveMeasurement {
     pub x: u64,
     /// The z mask; bits at or above the width count for nothing.
     pub z: u64,
-    /// The phase exponent, 0 to 3.
+    /// The phase exponent, 0 to 3, with 1 for each Y.
     pub phase: u64,
     /// The active position whose coordinate leaves.
     pub pivot: u64,
@@ -60,7 +68,9 @@ pub enum Record {
 }
 
 impl Record {
-    /// A rotation with the sine and cosine that Rust computes from the angle.
+    /// A [`Rotation`], with the sine and cosine that Rust computes from the angle. It needs the
+    /// feature `std`; without it the caller gives them in the struct.
+    #[cfg(feature = "std")]
     pub fn rotation(width: u64, x: u64, z: u64, phase: u64, angle: f64) -> Self {
         Self::Rotation(Rotation {
             width,
@@ -134,6 +144,7 @@ fn alone(kind: u64) -> [u64; RECORD_WORDS] {
 }
 
 /// The words of all records, one record after the other.
+#[cfg(feature = "alloc")]
 pub fn encode(records: &[Record]) -> Vec<u64> {
     records.iter().flat_map(Record::encode).collect()
 }
@@ -142,17 +153,33 @@ pub fn encode(records: &[Record]) -> Vec<u64> {
 mod tests {
     use super::*;
 
+    /// A rotation of which each word is another.
+    const TURN: Rotation = Rotation {
+        width: 3,
+        x: 5,
+        z: 1,
+        phase: 2,
+        angle: 0.25,
+        sine: 0.5,
+        cosine: 0.75,
+    };
+
     #[test]
     fn a_rotation_ends_with_angle_sine_cosine() {
-        let words = Record::rotation(3, 5, 1, 2, 0.25).encode();
+        let words = Record::Rotation(TURN).encode();
         assert_eq!(words[..5], [0, 3, 5, 1, 2]);
-        assert_eq!(
-            words[5..]
-                .iter()
-                .map(|&word| f64::from_bits(word))
-                .collect::<Vec<_>>(),
-            [0.25, 0.25f64.sin(), 0.25f64.cos()]
-        );
+        assert_eq!(words[5..], [0.25, 0.5, 0.75].map(f64::to_bits));
+    }
+
+    #[cfg(feature = "std")]
+    #[test]
+    fn sine_and_cosine_are_the_angles() {
+        let turn = Rotation {
+            sine: 0.25f64.sin(),
+            cosine: 0.25f64.cos(),
+            ..TURN
+        };
+        assert_eq!(Record::rotation(3, 5, 1, 2, 0.25), Record::Rotation(turn));
     }
 
     #[test]
@@ -164,18 +191,35 @@ mod tests {
         assert_eq!(Record::expectation().encode()[6], 1);
     }
 
+    /// One record of each kind.
+    const KINDS: [Record; 6] = [
+        Record::Rotation(TURN),
+        Record::Promotion,
+        Record::RecordMeasurement,
+        Record::RecordDetector,
+        Record::ActiveMeasurement(ActiveMeasurement {
+            width: 1,
+            x: 1,
+            z: 0,
+            phase: 0,
+            pivot: 0,
+            expectation: false,
+        }),
+        Record::DormantBranch,
+    ];
+
     #[test]
     fn kinds_are_numbered_in_order() {
-        let records = [
-            Record::rotation(0, 0, 0, 0, 0.0),
-            Record::Promotion,
-            Record::RecordMeasurement,
-            Record::RecordDetector,
-            Record::expectation(),
-            Record::DormantBranch,
-        ];
-        let words = encode(&records);
-        assert_eq!(words.len(), records.len() * RECORD_WORDS);
-        assert!(words.chunks(RECORD_WORDS).map(|record| record[0]).eq(0..6));
+        assert!(KINDS.iter().map(|record| record.encode()[0]).eq(0..6));
+    }
+
+    #[cfg(feature = "alloc")]
+    #[test]
+    fn records_follow_each_other() {
+        let words = encode(&KINDS);
+        assert_eq!(words.len(), KINDS.len() * RECORD_WORDS);
+        for (eight, record) in words.chunks(RECORD_WORDS).zip(&KINDS) {
+            assert_eq!(eight, record.encode());
+        }
     }
 }

@@ -186,6 +186,8 @@ impl Error for Refusal {}
 mod tests {
     use super::{Reason, Refusal};
     use std::collections::HashSet;
+    use std::string::{String, ToString};
+    use std::vec::Vec;
 
     /// What is said of a number at record 7.
     fn said(number: u64) -> String {

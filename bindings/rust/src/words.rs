@@ -1,6 +1,6 @@
 //! Reads the words of a row one after the other as typed values.
 
-use crate::kernels::Complex;
+use crate::Complex;
 
 /// The words of a row that are still to be read.
 pub(crate) struct Words<'a> {

@@ -3,7 +3,7 @@
 
 use midvokt::{
     encode, plan, plan_encoded, plan_into, plan_words, ActiveComponentStepKind, Buffers, Complex,
-    Head, Lengths, Reason, Record, RESULT_WORDS,
+    Head, Lengths, Reason, Record, Rotation, RESULT_WORDS,
 };
 
 /// A head with so many coordinates at the start, and max_k 8.
@@ -15,12 +15,22 @@ fn head(initial_k: u64) -> Head {
     }
 }
 
+/// A rotation about X by an angle.
+fn rotation(width: u64, x: u64, angle: f64) -> Record {
+    Record::Rotation(Rotation {
+        width,
+        x,
+        z: 0,
+        phase: 0,
+        angle,
+        sine: angle.sin(),
+        cosine: angle.cos(),
+    })
+}
+
 /// Three coordinates: a rotation with x = 5, then a measurement with z = 6 and pivot 2.
 fn circuit() -> Vec<Record> {
-    vec![
-        Record::rotation(3, 5, 0, 0, 0.0),
-        Record::measurement(3, 0, 6, 0, 2),
-    ]
+    vec![rotation(3, 5, 0.0), Record::measurement(3, 0, 6, 0, 2)]
 }
 
 /// Seven buffers and a result, all of noise.
@@ -185,7 +195,7 @@ fn a_full_program_fits_a_small_stack() {
     let promoted = vec![Record::Promotion; 61];
     let records: Vec<_> = promoted
         .into_iter()
-        .chain(vec![Record::rotation(61, (1 << 61) - 1, 0, 0, 0.5); 963])
+        .chain(vec![rotation(61, (1 << 61) - 1, 0.5); 963])
         .collect();
     let words = encode(&records);
     let mut noise = Noise::of(Lengths::for_records(records.len()));

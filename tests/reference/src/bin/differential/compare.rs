@@ -1,13 +1,16 @@
 //! One program through both: what the Rust expects, what the library gives.
 
-use midvokt::{Head, plan_encoded};
+use midvokt::{ActiveComponentPlan, Head, plan_encoded};
 use midvokt_reference::answer::{Answer, answer};
+use midvokt_reference::component_plan;
 use midvokt_reference::expected::{Expected, RESULT_WORDS};
 use midvokt_reference::generator::Numbers;
 use midvokt_reference::input::{BUFFERS, Program, RECORD_WORDS};
 use midvokt_reference::refusals::least_lengths;
 
+use crate::complex;
 use crate::dropin;
+use crate::kernels;
 use crate::memory::Memory;
 use crate::tally::Tally;
 
@@ -113,6 +116,21 @@ impl Comparison {
         Some((longer, format!("{found} (result of {result} words)")))
     }
 
+    /// What differs in the methods of the kernels and in complex numbers. The numbers drawn
+    /// here leave the program's own as they are.
+    fn methods(
+        &mut self,
+        ours: &ActiveComponentPlan,
+        theirs: &component_plan::ActiveComponentPlan,
+    ) -> Option<String> {
+        let mut random = self.random.clone();
+        let methods = kernels::compare(ours, theirs, &mut random);
+        let numbers = complex::compare(&mut random);
+        self.tally.methods += methods.count;
+        self.tally.numbers += numbers.count;
+        methods.first.or(numbers.first)
+    }
+
     /// What differs in the typed plan, where it does not depend on the lent lengths.
     fn typed(&mut self, program: &Program, answer: &Answer, expected: &Expected) -> Option<String> {
         if expected.number == SHORT_BUFFERS {
@@ -120,7 +138,9 @@ impl Comparison {
         }
         self.tally.typed += 1;
         match (plan_encoded(&head(program), &program.words), answer) {
-            (Ok(ours), Answer::Plan(theirs)) => dropin::difference(&ours, theirs),
+            (Ok(ours), Answer::Plan(theirs)) => {
+                dropin::difference(&ours, theirs).or_else(|| self.methods(&ours, theirs))
+            }
             (Err(ours), Answer::Refused(theirs)) => {
                 let same = (ours.number(), ours.index) == (theirs.number, theirs.index);
                 (!same).then(|| format!("the typed call gives {ours:?}"))

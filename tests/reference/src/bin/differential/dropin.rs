@@ -47,44 +47,56 @@ fn step(ours: &midvokt::ActiveComponentStepRef) -> ActiveComponentStepRef {
     }
 }
 
+/// A rotation kernel of theirs.
+pub fn rotation_kernel(
+    ours: &midvokt::PrecomputedActivePauliRotationKernel,
+) -> PrecomputedActivePauliRotationKernel {
+    PrecomputedActivePauliRotationKernel {
+        action: action(&ours.action),
+        is_diagonal: ours.is_diagonal,
+        uniform_imag_pairs: ours.uniform_imag_pairs,
+        real_pair_flip: ours.real_pair_flip,
+        pair_bit: ours.pair_bit,
+        pair_count: ours.pair_count,
+        kernel_angle: ours.kernel_angle,
+        cos_kernel_angle: ours.cos_kernel_angle,
+        sin_kernel_angle: ours.sin_kernel_angle,
+        minus_even_coefficient: complex(ours.minus_even_coefficient),
+    }
+}
+
 /// A rotation row of theirs.
 fn rotation(ours: &midvokt::ActiveComponentRotationStep) -> ActiveComponentRotationStep {
-    let kernel = &ours.kernel;
     ActiveComponentRotationStep {
         component: ours.component,
         merge_offset: ours.merge_offset,
         merge_count: ours.merge_count,
-        kernel: PrecomputedActivePauliRotationKernel {
-            action: action(&kernel.action),
-            is_diagonal: kernel.is_diagonal,
-            uniform_imag_pairs: kernel.uniform_imag_pairs,
-            real_pair_flip: kernel.real_pair_flip,
-            pair_bit: kernel.pair_bit,
-            pair_count: kernel.pair_count,
-            kernel_angle: kernel.kernel_angle,
-            cos_kernel_angle: kernel.cos_kernel_angle,
-            sin_kernel_angle: kernel.sin_kernel_angle,
-            minus_even_coefficient: complex(kernel.minus_even_coefficient),
-        },
+        kernel: rotation_kernel(&ours.kernel),
+    }
+}
+
+/// A measurement kernel of theirs.
+pub fn measurement_kernel(
+    ours: &midvokt::PrecomputedActivePauliMeasurementKernel,
+) -> PrecomputedActivePauliMeasurementKernel {
+    PrecomputedActivePauliMeasurementKernel {
+        action: action(&ours.action),
+        pivot: ours.pivot,
+        is_diagonal: ours.is_diagonal,
+        diagonal_phase_bit: ours.diagonal_phase_bit,
+        z_without_pivot: ours.z_without_pivot,
+        out_dim: ours.out_dim,
+        nondiagonal_coefficient1_even: complex(ours.nondiagonal_coefficient1_even),
     }
 }
 
 /// A measurement row of theirs.
 fn measurement(ours: &midvokt::ActiveComponentMeasurementStep) -> ActiveComponentMeasurementStep {
-    let kernel = &ours.kernel;
     ActiveComponentMeasurementStep {
         component: ours.component,
         merge_offset: ours.merge_offset,
         merge_count: ours.merge_count,
-        kernel: PrecomputedActivePauliMeasurementKernel {
-            action: action(&kernel.action),
-            pivot: kernel.pivot,
-            is_diagonal: kernel.is_diagonal,
-            diagonal_phase_bit: kernel.diagonal_phase_bit,
-            z_without_pivot: kernel.z_without_pivot,
-            out_dim: kernel.out_dim,
-            nondiagonal_coefficient1_even: complex(kernel.nondiagonal_coefficient1_even),
-        },
+        kernel: measurement_kernel(&ours.kernel),
         deactivate_after: ours.deactivate_after,
     }
 }
@@ -97,7 +109,7 @@ fn promotion(ours: &midvokt::ActiveComponentPromotionStep) -> ActiveComponentPro
 }
 
 /// A plan of theirs.
-fn plan(ours: &midvokt::ActiveComponentPlan) -> ActiveComponentPlan {
+pub fn plan(ours: &midvokt::ActiveComponentPlan) -> ActiveComponentPlan {
     ActiveComponentPlan {
         selected: ours.selected,
         initial_components: ours.initial_components,

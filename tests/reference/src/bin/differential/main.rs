@@ -3,7 +3,8 @@
 //! Each program is answered by the Rust, in the numbers and words of docs/01-scope.md, and
 //! planned by the library in buffers of noise. Every word that a call returns and writes has
 //! to be the expected one, and words beside the lent ones have to stay. The typed plan of
-//! the crate `midvokt` is turned into the Rust's own and compared with it as well.
+//! the crate `midvokt` is turned into the Rust's own and compared with it as well, and so are
+//! the defaults and methods of its kernels, and its complex numbers.
 //!
 //! Programs: the stored ones, all with up to two records over small widths, those with
 //! several faults at once, and random ones. `differential [--spoil N] [SEED [COUNT]]`.
@@ -12,9 +13,12 @@
 //! malformed option, 3 anything that was not foreseen.
 
 mod compare;
+mod complex;
 mod dropin;
 mod inputs;
+mod kernels;
 mod memory;
+mod results;
 mod tally;
 
 use std::process::ExitCode;
@@ -104,7 +108,8 @@ fn run(options: &Options) -> Result<bool, String> {
     if options.spoiled.is_some_and(|index| index >= inputs.len()) {
         return Err(format!("there are only {} programs", inputs.len()));
     }
-    let tally = compare_all(&inputs, options.spoiled)?;
+    let mut tally = compare_all(&inputs, options.spoiled)?;
+    tally.defaults = kernels::compare_defaults();
     println!("{}", inputs.text());
     println!("{}", tally.text());
     Ok(tally.is_good())

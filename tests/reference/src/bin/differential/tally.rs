@@ -3,6 +3,8 @@
 use midvokt_reference::expected::Expected;
 use midvokt_reference::input::Program;
 
+use crate::results::Results;
+
 /// Refusals have numbers up to this one.
 const LAST_REFUSAL: usize = 20;
 
@@ -28,6 +30,12 @@ pub struct Tally {
     pub incomparable: u64,
     pub calls: u64,
     pub typed: u64,
+    /// The defaults of the types, which are the same for all programs.
+    pub defaults: Results,
+    /// Results of the kernels' methods.
+    pub methods: u64,
+    /// Results of complex numbers.
+    pub numbers: u64,
     differences: u64,
     first: Option<(u64, String)>,
 }
@@ -100,6 +108,8 @@ impl Tally {
         self.incomparable += other.incomparable;
         self.calls += other.calls;
         self.typed += other.typed;
+        self.methods += other.methods;
+        self.numbers += other.numbers;
         let before = self.differences + other.differences;
         if let Some((index, text)) = other.first {
             self.differ(index, text);
@@ -116,9 +126,14 @@ impl Tally {
             .collect()
     }
 
+    /// How many programs differ, and one more where a default does.
+    fn all_differences(&self) -> u64 {
+        self.differences + u64::from(self.defaults.first.is_some())
+    }
+
     /// Whether nothing differs and every refusal occurred.
     pub fn is_good(&self) -> bool {
-        self.differences == 0 && self.missing().is_empty()
+        self.all_differences() == 0 && self.missing().is_empty()
     }
 
     /// The report.
@@ -137,13 +152,20 @@ impl Tally {
             "calls compared {}, typed calls {}",
             self.calls, self.typed
         ));
+        lines.push(format!(
+            "defaults compared {}, kernel methods compared {}, complex results compared {}",
+            self.defaults.count, self.methods, self.numbers
+        ));
         if !self.missing().is_empty() {
             lines.push(format!("never refused: {}", self.missing().join(", ")));
         }
         if let Some((index, text)) = &self.first {
             lines.push(format!("program {index} differs: {text}"));
         }
-        lines.push(format!("differences {}", self.differences));
+        if let Some(found) = &self.defaults.first {
+            lines.push(format!("a default differs: {found}"));
+        }
+        lines.push(format!("differences {}", self.all_differences()));
         lines.join("\n")
     }
 }
