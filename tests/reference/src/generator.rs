@@ -22,7 +22,7 @@ use crate::input::Program;
 
 pub use probes::probes;
 pub use random::Random as Numbers;
-pub use shapes::steady;
+pub use shapes::{check_circuit, steady};
 pub use small::small_programs;
 
 /// A way to make a random program.

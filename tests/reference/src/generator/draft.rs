@@ -246,6 +246,45 @@ impl Draft {
         }
     }
 
+    /// One to three positions of a register of at most 62 that is not empty. Those that are
+    /// near are neighbours, or half of the time the newest position and neighbours.
+    pub fn few_positions(&mut self, near: bool) -> u64 {
+        let count = self.random.between(1, 3).min(self.width);
+        if !near {
+            return self.random.bits_of(low_bits(self.width), count);
+        }
+        let first = self.random.between(0, self.width - count);
+        match self.random.chance(50) {
+            true => low_bits(count) << first,
+            false => low_bits(count - 1) << first | 1 << (self.width - 1),
+        }
+    }
+
+    /// The masks of a string with a letter at each of these positions: half are Z.
+    fn letters(&mut self, support: u64) -> (u64, u64) {
+        let x = self.random.word() & support;
+        let y = self.random.word() & x;
+        (x, support & !x | y)
+    }
+
+    /// A rotation about a string with this support.
+    pub fn rotate_on(&mut self, support: u64) {
+        let (x, z) = self.letters(support);
+        self.rotate(x, z);
+    }
+
+    /// A measurement of a string with this support, half of the time of Z alone. The pivot is
+    /// any of the positions.
+    pub fn measure_on(&mut self, support: u64) {
+        let bit = self.random.bit_of(support);
+        let (x, z) = self.letters(support);
+        let (x, z, phase) = match self.random.chance(50) {
+            true => (x | bit, z, self.phase()),
+            false => (0, support, self.random.pick(&[0, 2])),
+        };
+        self.measure(x, z, phase, u64::from(bit.trailing_zeros()));
+    }
+
     /// One more record that fits, its kind chosen by weight; none where none can be.
     pub fn record(&mut self, weights: Weights) {
         let fits = self.width <= MOST_WIDTH;

@@ -1,6 +1,7 @@
-//! Whole programs that fit: short ones, and long lives with large components.
+//! Whole programs that fit: short ones, long lives with large components, and those that are
+//! timed.
 
-use super::draft::{Draft, MOST_RECORDS, low_bits};
+use super::draft::{Draft, MOST_RECORDS, Weights, low_bits};
 use super::random::Random;
 use crate::input::Program;
 
@@ -202,6 +203,39 @@ pub fn steady(random: Random, records: usize, width: u64, blocks: u64, joined: b
             _ => [6, 1, 1, 1],
         };
         draft.record(weights);
+    }
+    draft.finish()
+}
+
+/// Rotations, promotions, measurements and classical records in eight of a check circuit.
+const EIGHT: Weights = [2, 1, 1, 4];
+
+/// A program as check circuits have it, of just so many records: among every eight are four
+/// that planning passes over, two rotations, a promotion and a measurement, in any order. So
+/// the width stays within one of what is given.
+///
+/// In such circuits an error turns one coordinate or two; a check couples neighbours with an
+/// ancilla, which is promoted behind all others and measured soon, or measures the neighbours
+/// themselves; and each outcome is recorded and goes into detectors. So every rotation and
+/// measurement has one to three positions: near ones, as where data lie along a line, or any,
+/// as where the order of the register says nothing about the checks.
+pub fn check_circuit(random: Random, records: usize, width: u64, near: bool) -> Program {
+    let mut draft = Draft::new(random, width);
+    draft.plain_angles = true;
+    let mut left = EIGHT;
+    while draft.count() < records {
+        if left == [0; 4] {
+            left = EIGHT;
+        }
+        let support = draft.few_positions(near);
+        let kind = draft.random.weighted(&left);
+        left[kind] -= 1;
+        match kind {
+            0 => draft.rotate_on(support),
+            1 => draft.promotion(),
+            2 => draft.measure_on(support),
+            _ => draft.classical(),
+        }
     }
     draft.finish()
 }

@@ -4,8 +4,8 @@ use midvokt::{Buffers, Head, RESULT_WORDS, plan_words};
 use midvokt_reference::answer::answer;
 use midvokt_reference::expected::Expected;
 use midvokt_reference::factored::FactoredInstructionProgram;
-use midvokt_reference::generator::{Numbers, steady};
-use midvokt_reference::input::Program;
+use midvokt_reference::generator::{Numbers, check_circuit, steady};
+use midvokt_reference::input::{Program, RECORD_WORDS, Record};
 use midvokt_reference::instructions::rust_program;
 use midvokt_reference::refusals::least_lengths;
 
@@ -23,32 +23,41 @@ pub enum Components {
     Many,
 }
 
+/// Where the one to three positions of a record lie.
+#[derive(Clone, Copy, PartialEq, Eq)]
+pub enum Positions {
+    Near,
+    Anywhere,
+}
+
+/// What the programs of a mix are like.
+#[derive(Clone, Copy, PartialEq, Eq)]
+pub enum Sort {
+    /// Supports of any size in blocks that stay apart, and few records classical.
+    Steady(Components),
+    /// Supports of one to three positions, and half of the records classical.
+    Check(Positions),
+}
+
 use Components::{Few, Many};
+use Positions::{Anywhere, Near};
+use Sort::{Check, Steady};
 use Width::{Narrow, Wide};
 
-/// Records, width and components of each mix.
-pub const MIXES: [(usize, Width, Components); 20] = [
-    (8, Narrow, Few),
-    (8, Narrow, Many),
-    (8, Wide, Few),
-    (8, Wide, Many),
-    (32, Narrow, Few),
-    (32, Narrow, Many),
-    (32, Wide, Few),
-    (32, Wide, Many),
-    (128, Narrow, Few),
-    (128, Narrow, Many),
-    (128, Wide, Few),
-    (128, Wide, Many),
-    (512, Narrow, Few),
-    (512, Narrow, Many),
-    (512, Wide, Few),
-    (512, Wide, Many),
-    (1024, Narrow, Few),
-    (1024, Narrow, Many),
-    (1024, Wide, Few),
-    (1024, Wide, Many),
-];
+/// The sorts in blocks.
+pub const STEADY: [Sort; 2] = [Steady(Few), Steady(Many)];
+/// The sorts that are like check circuits.
+pub const CHECKS: [Sort; 2] = [Check(Near), Check(Anywhere)];
+
+const RECORDS: [usize; 5] = [8, 32, 128, 512, 1024];
+
+/// Records, width and sort of each mix of two sorts.
+pub fn mixes_of(sorts: [Sort; 2]) -> impl Iterator<Item = (usize, Width, Sort)> {
+    RECORDS.into_iter().flat_map(move |records| {
+        let widths = [Narrow, Wide].into_iter();
+        widths.flat_map(move |width| sorts.map(|sort| (records, width, sort)))
+    })
+}
 
 /// Different programs in a mix.
 const PROGRAMS: u64 = 32;
@@ -67,7 +76,7 @@ pub struct Prepared {
 pub struct Mix {
     pub records: usize,
     width: Width,
-    components: Components,
+    sort: Sort,
     pub programs: Vec<Prepared>,
     pub buffers: Room,
 }
@@ -151,29 +160,43 @@ fn groups_in(mut words: &[u64]) -> usize {
     count
 }
 
+/// The positions that a record touches, where planning reads them.
+fn support(record: &Record) -> Option<u32> {
+    let is_read = record.is_rotation() || record.is_measurement() && record.flag() == 0;
+    is_read.then(|| ((record.x | record.z) & !(u64::MAX << record.width)).count_ones())
+}
+
+/// The mean of some numbers, 0 where there are none.
+fn mean(numbers: impl Iterator<Item = f64>) -> f64 {
+    let (count, sum) = numbers.fold((0, 0.0), |(count, sum), number| (count + 1, sum + number));
+    sum / f64::from(count.max(1))
+}
+
+/// Program number `index` of a mix.
+fn program(records: usize, width: Width, sort: Sort, index: u64) -> Program {
+    let numbers = Numbers::new(SEED, index);
+    let coordinates = match width {
+        Narrow => 10,
+        Wide => 50,
+    };
+    match sort {
+        Steady(Few) => steady(numbers, records, coordinates, 2, true),
+        Steady(Many) => steady(numbers, records, coordinates, coordinates / 2, false),
+        Check(positions) => check_circuit(numbers, records, coordinates, positions == Near),
+    }
+}
+
 impl Mix {
     /// The mix's programs, each tried once.
-    pub fn new(records: usize, width: Width, components: Components) -> Result<Self, String> {
-        let coordinates = match width {
-            Narrow => 10,
-            Wide => 50,
-        };
-        let (blocks, joined) = match components {
-            Few => (2, true),
-            Many => (coordinates / 2, false),
-        };
+    pub fn new(records: usize, width: Width, sort: Sort) -> Result<Self, String> {
         let mut buffers = Room::new(records);
         let programs = (0..PROGRAMS)
-            .map(|index| {
-                let numbers = Numbers::new(SEED, index);
-                let program = steady(numbers, records, coordinates, blocks, joined);
-                prepared(program, &mut buffers)
-            })
+            .map(|index| prepared(program(records, width, sort, index), &mut buffers))
             .collect::<Result<_, String>>()?;
         Ok(Self {
             records,
             width,
-            components,
+            sort,
             programs,
             buffers,
         })
@@ -187,22 +210,55 @@ impl Mix {
         }
     }
 
-    /// The components in words.
-    pub fn components_name(&self) -> &'static str {
-        match self.components {
-            Few => "few",
-            Many => "many",
+    /// The sort in a word.
+    pub fn sort_name(&self) -> &'static str {
+        match self.sort {
+            Steady(Few) => "few",
+            Steady(Many) => "many",
+            Check(Near) => "near",
+            Check(Anywhere) => "anywhere",
         }
+    }
+
+    /// The mix in words.
+    pub fn name(&self) -> String {
+        let programs = match self.sort {
+            Steady(_) => "programs in blocks",
+            Check(_) => "check circuits",
+        };
+        let (records, width, sort) = (self.records, self.width_name(), self.sort_name());
+        format!("{programs}, {records} records, {width}, {sort}")
     }
 
     /// Whether another mix differs in the number of records at most.
     pub fn is_like(&self, other: &Self) -> bool {
-        self.width == other.width && self.components == other.components
+        self.width == other.width && self.sort == other.sort
+    }
+
+    /// All records of all programs.
+    fn all_records(&self) -> impl Iterator<Item = Record> {
+        let words = self.programs.iter().map(|program| &program.words);
+        words.flat_map(|words| words.chunks(RECORD_WORDS).map(Record::from_words))
+    }
+
+    /// The share of records of kinds 2, 3 and 5.
+    pub fn classical_share(&self) -> f64 {
+        mean(
+            self.all_records()
+                .map(|record| f64::from(u8::from(matches!(record.kind, 2 | 3 | 5)))),
+        )
+    }
+
+    /// How many positions a rotation or a measurement touches, on average.
+    pub fn mean_support(&self) -> f64 {
+        mean(
+            self.all_records()
+                .filter_map(|record| support(&record).map(f64::from)),
+        )
     }
 
     /// How many components live at the end, on average.
     pub fn live_components(&self) -> f64 {
-        let live: usize = self.programs.iter().map(|program| program.live).sum();
-        live as f64 / self.programs.len() as f64
+        mean(self.programs.iter().map(|program| program.live as f64))
     }
 }

@@ -5,12 +5,19 @@ use std::time::{Duration, Instant};
 
 use midvokt_reference::component_plan::build_active_component_plan;
 
-use crate::mixes::Mix;
+use crate::mixes::{Mix, Prepared};
 
 /// How long the calls of a run last at least.
 const LEAST_RUN: Duration = Duration::from_millis(30);
 /// The fewest calls of a run.
 const FEWEST_CALLS: usize = 200;
+
+/// Whether the Rust's plan is freed inside its time or after it.
+#[derive(Clone, Copy)]
+pub enum Freeing {
+    Inside,
+    After,
+}
 
 /// Nanoseconds a plan, and the ratios of the library's time to the Rust's.
 pub struct Timed {
@@ -62,15 +69,26 @@ fn ours(mix: &mut Mix, clock: &Clock) -> Duration {
     total
 }
 
+/// The Rust's time for a program.
+fn their_time(program: &Prepared, clock: &Clock, freeing: Freeing) -> Duration {
+    let plan = || build_active_component_plan(black_box(&program.rust));
+    let (is_plan, time) = match freeing {
+        Freeing::Inside => clock.time(|| black_box(plan()).is_ok()),
+        Freeing::After => {
+            let (plan, time) = clock.time(plan);
+            (black_box(plan).is_ok(), time)
+        }
+    };
+    assert!(is_plan, "the mix has plans only");
+    time
+}
+
 /// One pass of the Rust over the mix.
-fn theirs(mix: &Mix, clock: &Clock) -> Duration {
-    let mut total = Duration::ZERO;
-    for program in &mix.programs {
-        let (plan, time) = clock.time(|| build_active_component_plan(black_box(&program.rust)));
-        assert!(black_box(plan).is_ok(), "the mix has plans only");
-        total += time;
-    }
-    total
+fn theirs(mix: &Mix, clock: &Clock, freeing: Freeing) -> Duration {
+    let programs = mix.programs.iter();
+    programs
+        .map(|program| their_time(program, clock, freeing))
+        .sum()
 }
 
 /// Nanoseconds a plan over so many passes.
@@ -92,26 +110,50 @@ fn median(values: impl Iterator<Item = f64>) -> f64 {
     sorted[sorted.len() / 2]
 }
 
-/// Times a mix by so many pairs of runs, after a pass of each that is not counted.
-pub fn time(mix: &mut Mix, clock: &Clock, runs: usize) -> Timed {
+impl Timed {
+    /// The medians of pairs of the library's time and the Rust's, and of their ratios.
+    fn of(pairs: &[(f64, f64)]) -> Self {
+        let ratios = || pairs.iter().map(|(ours, theirs)| ours / theirs);
+        Self {
+            ours: median(pairs.iter().map(|pair| pair.0)),
+            theirs: median(pairs.iter().map(|pair| pair.1)),
+            ratio: median(ratios()),
+            least_ratio: ratios().fold(f64::INFINITY, f64::min),
+            most_ratio: ratios().fold(0.0, f64::max),
+        }
+    }
+}
+
+/// A run of the library, and one of the Rust with each freeing in so many passes.
+fn round(
+    mix: &mut Mix,
+    clock: &Clock,
+    our_passes: usize,
+    their_passes: &[(Freeing, usize)],
+) -> Vec<(f64, f64)> {
+    let programs = mix.programs.len();
+    let our_time = run(our_passes, programs, || ours(mix, clock));
+    let their_time = |&(freeing, passes)| run(passes, programs, || theirs(mix, clock, freeing));
+    let times = their_passes.iter().map(their_time);
+    times.map(|their_time| (our_time, their_time)).collect()
+}
+
+/// Times a mix against the Rust with each of some freeings. So many runs of the library and of
+/// each alternate, after a pass of each that is not counted.
+pub fn time(mix: &mut Mix, clock: &Clock, runs: usize, freeings: &[Freeing]) -> Vec<Timed> {
     let programs = mix.programs.len();
     ours(mix, clock);
-    theirs(mix, clock);
     let our_passes = passes_for(ours(mix, clock), programs);
-    let their_passes = passes_for(theirs(mix, clock), programs);
-    let pairs: Vec<(f64, f64)> = (0..runs)
-        .map(|_| {
-            let our_time = run(our_passes, programs, || ours(mix, clock));
-            let their_time = run(their_passes, programs, || theirs(mix, clock));
-            (our_time, their_time)
-        })
+    let passes_with = |&freeing| {
+        theirs(mix, clock, freeing);
+        (freeing, passes_for(theirs(mix, clock, freeing), programs))
+    };
+    let their_passes: Vec<(Freeing, usize)> = freeings.iter().map(passes_with).collect();
+    let rounds: Vec<Vec<(f64, f64)>> = (0..runs)
+        .map(|_| round(mix, clock, our_passes, &their_passes))
         .collect();
-    let ratios = || pairs.iter().map(|(ours, theirs)| ours / theirs);
-    Timed {
-        ours: median(pairs.iter().map(|pair| pair.0)),
-        theirs: median(pairs.iter().map(|pair| pair.1)),
-        ratio: median(ratios()),
-        least_ratio: ratios().fold(f64::INFINITY, f64::min),
-        most_ratio: ratios().fold(0.0, f64::max),
-    }
+    let pairs_at = |place: usize| rounds.iter().map(|round| round[place]).collect::<Vec<_>>();
+    (0..freeings.len())
+        .map(|place| Timed::of(&pairs_at(place)))
+        .collect()
 }
