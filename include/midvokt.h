@@ -27,10 +27,12 @@
  * A component is a set of coordinates that the simulator keeps in one small register, in an
  * order of its own: its member j is bit j of that register and of the local masks. Coordinate
  * c begins alone in component c. A record joins the components that it touches: members of
- * the others are appended to those of the largest (on a tie, the one of the smallest number),
- * which keeps its number; the others' numbers are not used again. A record that touches none,
- * since no mask bit lies below its width, concerns the component of position 0. A rotation
- * where no coordinate is active is a global phase and concerns none.
+ * the others, by ascending number and each in its own order, are appended to those of the
+ * largest (on a tie, the one of the smallest number), which keeps its number; the others'
+ * numbers are not used again. Where a measurement takes a member away, those behind it move
+ * down. A record that touches none, since no mask bit lies below its width, concerns the
+ * component of position 0. A rotation where no coordinate is active is a global phase and
+ * concerns none.
  *
  *
  * Paulis and angles
@@ -82,14 +84,14 @@ enum midvokt_kind {
     MIDVOKT_KIND_RECORD_MEASUREMENT = 2,  /* classical, passed over; only the kind is read */
     MIDVOKT_KIND_RECORD_DETECTOR = 3,     /* classical, passed over; only the kind is read */
     MIDVOKT_KIND_ACTIVE_MEASUREMENT = 4,  /* of P, or with flag 1 an expectation of it */
-    MIDVOKT_KIND_DORMANT_BRANCH = 5       /* off the register; only the kind is read */
+    MIDVOKT_KIND_DORMANT_BRANCH = 5       /* on a coordinate that is not active, passed over */
 };
 
 /* The words of a record. A measurement's last word is unread; with flag 1 its width, masks,
  * phase and pivot are unread too. Mask bits at or above the width count for nothing. */
 enum midvokt_record_word {
     MIDVOKT_RECORD_KIND = 0,
-    MIDVOKT_RECORD_WIDTH = 1,       /* the number of active coordinates, 0 to 62 */
+    MIDVOKT_RECORD_WIDTH = 1,       /* the number of active coordinates; above 62 refused */
     MIDVOKT_RECORD_X = 2,           /* mask by position */
     MIDVOKT_RECORD_Z = 3,           /* mask by position */
     MIDVOKT_RECORD_PHASE = 4,       /* exponent of i, 0 to 3; each Y needs 1 */
@@ -122,8 +124,8 @@ enum midvokt_step_word {
 
 /* The kind of a step. */
 enum midvokt_step_kind {
-    MIDVOKT_STEP_NONE = 0,
-    MIDVOKT_STEP_IGNORED_GLOBAL_PHASE = 1,
+    MIDVOKT_STEP_NONE = 0,                 /* nothing to plan */
+    MIDVOKT_STEP_IGNORED_GLOBAL_PHASE = 1, /* a rotation with no coordinate active */
     MIDVOKT_STEP_ROTATION = 2,
     MIDVOKT_STEP_PROMOTION = 3,
     MIDVOKT_STEP_MEASUREMENT = 4
@@ -131,9 +133,9 @@ enum midvokt_step_kind {
 
 /* Merges: the sources of all rows, one row's after the other's. A row's part begins at its
  * merge offset and has merge count words: first the component that the others join, then
- * the others by ascending number. */
+ * the others by ascending number. Where nothing joins it is the component alone, 1 word. */
 
-/* Sizes: the longest size of each component, by its number. */
+/* Sizes: the most members that each component ever has, by its number. */
 
 /* The first eleven words of a rotation row and of a measurement row. Local bit j belongs to
  * the component's member j. A complex number is two words, real part first. */
@@ -144,8 +146,8 @@ enum midvokt_row_word {
     MIDVOKT_ROW_WIDTH = 3,      /* the component's size, before a removal */
     MIDVOKT_ROW_X = 4,          /* local mask */
     MIDVOKT_ROW_Z = 5,          /* local mask */
-    MIDVOKT_ROW_EVEN_PHASE = 6, /* complex, words 6 and 7 */
-    MIDVOKT_ROW_ODD_PHASE = 8,  /* complex, words 8 and 9 */
+    MIDVOKT_ROW_EVEN_PHASE = 6, /* complex, words 6 and 7: i^phase */
+    MIDVOKT_ROW_ODD_PHASE = 8,  /* complex, words 8 and 9: both parts negated */
     MIDVOKT_ROW_OVERLAP = 10    /* flag: the masks share an odd number of bits */
 };
 
@@ -153,13 +155,13 @@ enum midvokt_row_word {
 enum midvokt_rotation_word {
     MIDVOKT_ROTATION_DIAGONAL = 11,    /* flag: x is 0 */
     MIDVOKT_ROTATION_UNIFORM = 12,     /* flag: x is not 0, z is 0 */
-    MIDVOKT_ROTATION_FLIP = 13,        /* flag: real pairs with opposite signs */
-    MIDVOKT_ROTATION_PAIR_BIT = 14,    /* the highest bit of x */
-    MIDVOKT_ROTATION_PAIR_COUNT = 15,  /* half the component's dimension */
+    MIDVOKT_ROTATION_FLIP = 13,        /* flag: x and z not 0, overlap odd, phase 1 or 3 */
+    MIDVOKT_ROTATION_PAIR_BIT = 14,    /* the number of x's highest bit; 0 where diagonal */
+    MIDVOKT_ROTATION_PAIR_COUNT = 15,  /* half the dimension; 0 where diagonal */
     MIDVOKT_ROTATION_ANGLE = 16,       /* bits of a double, as the record has them */
     MIDVOKT_ROTATION_COSINE = 17,      /* the same */
     MIDVOKT_ROTATION_SINE = 18,        /* the same */
-    MIDVOKT_ROTATION_COEFFICIENT = 19, /* complex, words 19 and 20 */
+    MIDVOKT_ROTATION_COEFFICIENT = 19, /* complex, 19 and 20: -i sine times the even phase */
     MIDVOKT_ROTATION_WORDS = 21
 };
 
@@ -170,15 +172,31 @@ enum midvokt_measurement_word {
     MIDVOKT_MEASUREMENT_PIVOT = 11,           /* local position of the member that leaves */
     MIDVOKT_MEASUREMENT_DIAGONAL = 12,        /* flag: x is 0 */
     MIDVOKT_MEASUREMENT_PHASE_BIT = 13,       /* 1 where diagonal with phase exponent 2 */
-    MIDVOKT_MEASUREMENT_Z_WITHOUT_PIVOT = 14, /* local mask where diagonal, else 0 */
+    MIDVOKT_MEASUREMENT_Z_WITHOUT_PIVOT = 14, /* z with that bit 0 where diagonal, else 0 */
     MIDVOKT_MEASUREMENT_OUT_DIMENSION = 15,   /* half the component's dimension */
-    MIDVOKT_MEASUREMENT_COEFFICIENT = 16,     /* complex, words 16 and 17 */
+    MIDVOKT_MEASUREMENT_COEFFICIENT = 16,     /* complex, 16 and 17: the even phase, conjugated,
+                                                 times the root of one half, diagonal or not */
     MIDVOKT_MEASUREMENT_DEACTIVATED = 18,     /* flag: no member is left */
     MIDVOKT_MEASUREMENT_WORDS = 19
 };
 
-/* Groups: for each component that lives at the end, a member count and then its members in
- * order. A count of 0, or the end of the buffer, ends them. */
+/* How a row is applied to its component's register, once its sources are joined. a[b] is the
+ * amplitude at basis index b, and odd(w) tells whether w has an odd number of ones.
+ *
+ *   P            takes index b to b ^ x, times the even phase, or the odd one if odd(b & z)
+ *   rotation     a'[b ^ x] = cosine a[b ^ x] + c a[b] for every b, c being the coefficient,
+ *                negated if odd(b & z)
+ *   measurement  of the outcome +1 (s = 0) or -1 (s = 1): new indices b have one bit less,
+ *                and d is b with a bit of 0 put in at the pivot.
+ *     diagonal   a'[b] = a[d] or, if phase bit ^ odd(d & z without pivot) ^ s is 1, a[d with
+ *                a bit of 1 at the pivot]
+ *     else       a'[b] = r a[d] + c a[d ^ x], r being the root of one half and c the
+ *                coefficient, negated if odd(d & z) ^ s is 1
+ *                The squares of the new amplitudes add up to the outcome's probability. */
+
+/* Groups: for each component that lives at the end, a member count and then its members, which
+ * are coordinates, in order. Each stands there once; in which order they come is left open. A
+ * count of 0, or the end of the buffer, ends them. */
 
 /* The result. After a refusal words 1 to 8 are 0. A shorter result gets its first words, and
  * words behind the ninth are zero. A component of n members has the dimension 2 to the power
@@ -232,11 +250,13 @@ enum midvokt_number {
  * Plans the records. Returns MIDVOKT_PLANNED, or the number of the first refusal.
  *
  *   initial_k   the coordinates that are active at the start, 0 to 512; component_count
- *               components are made: initial_k and one for each promotion, 512 at most
+ *               components are made: initial_k and one for each promotion, 512 at most.
+ *               Where more than 62 are active, rotations and measurements are refused
  *   max_k       the width of the one wide register that the split is compared with: the dense
  *               peak is 2 to the power of max_k, and the components may allocate 1.25 times
  *               as much to be selected. Give the greatest number of active coordinates; it is
- *               not held to the records. 62 or more is refused
+ *               not held to the records. Below 8 nothing is planned (see below): give 8 to
+ *               have the rows of a small circuit. 62 or more is refused
  *   nexpvals    the number of expectation values that the program has; a program that has any
  *               is not split
  *   records     the records, one behind the other, eight words each; records_len counts words

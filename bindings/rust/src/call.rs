@@ -15,14 +15,17 @@ pub const RESULT_WORDS: usize = 9;
 pub struct Head {
     /// The number of active coordinates at the start.
     pub initial_k: u64,
-    /// The greatest number of active coordinates, which gives the dense peak.
+    /// The greatest number of active coordinates, which gives the dense peak; it is not held to
+    /// the records. Below 8 no record is read and the plan is empty: give 8 to have the rows of a
+    /// small circuit. 62 or more is refused.
     pub max_k: u64,
-    /// The number of expectation values; other than 0, nothing is split.
+    /// The number of expectation values; other than 0, no record is read and the plan is empty.
     pub nexpvals: u64,
 }
 
 impl Head {
-    /// Whether planning accepts without reading records or buffers.
+    /// Whether planning accepts without reading records or buffers: `max_k` is below 8, or
+    /// `nexpvals` is not 0.
     pub fn leaves_unread(&self) -> bool {
         self.max_k < 8 || self.nexpvals != 0
     }
@@ -118,22 +121,23 @@ fn row(words: &[u64], size: usize, number: usize) -> Option<&[u64]> {
 }
 
 impl Buffers<'_> {
-    /// The step of a record; none past the end, and none where no planning wrote.
+    /// The step of a record; none past the end, and none where the words are no step's. Zeros
+    /// are the step of nothing.
     pub fn step(&self, record: usize) -> Option<ActiveComponentStepRef> {
         row(self.steps, STEP_WORDS, record).and_then(ActiveComponentStepRef::from_words)
     }
 
-    /// A rotation row.
+    /// A rotation row; none past the end. Go by the steps: behind the last row all is zero.
     pub fn rotation(&self, number: usize) -> Option<ActiveComponentRotationStep> {
         row(self.rotations, ROTATION_WORDS, number).map(ActiveComponentRotationStep::from_words)
     }
 
-    /// A promotion row.
+    /// A promotion row; none past the end. Go by the steps: behind the last row all is zero.
     pub fn promotion(&self, number: usize) -> Option<ActiveComponentPromotionStep> {
         row(self.promotions, 1, number).map(ActiveComponentPromotionStep::from_words)
     }
 
-    /// A measurement row.
+    /// A measurement row; none past the end. Go by the steps: behind the last row all is zero.
     pub fn measurement(&self, number: usize) -> Option<ActiveComponentMeasurementStep> {
         row(self.measurements, MEASUREMENT_WORDS, number)
             .map(ActiveComponentMeasurementStep::from_words)
@@ -147,7 +151,8 @@ impl Buffers<'_> {
             .unwrap_or(&[])
     }
 
-    /// The members of each component that lives at the end.
+    /// The members, which are coordinates, of each component that lives at the end. Each stands
+    /// there once; in which order they come is left open.
     pub fn groups(&self) -> Groups<'_> {
         Groups { left: self.groups }
     }
@@ -177,7 +182,9 @@ impl<'a> Iterator for Groups<'a> {
 /// The scalar fields of a plan.
 #[derive(Clone, Copy, Debug, Default, PartialEq)]
 pub struct Summary {
-    /// Whether the split pays.
+    /// Whether the split pays: rotations, promotions and measurements with flag 0 are 4 or more
+    /// together, the dense work is at least 1.8 times the component work and at least 8,192 more,
+    /// and what is allocated is at most 1.25 times the dense peak.
     pub selected: bool,
     /// The components at the start.
     pub initial_components: usize,

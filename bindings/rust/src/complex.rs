@@ -7,7 +7,8 @@ use core::ops::{Add, AddAssign, Div, DivAssign, Mul, MulAssign, Neg, Sub, SubAss
 
 /// A complex number. With the feature `num-complex` it is that crate's `Complex64` instead, of
 /// which this type has the fields, `new`, `conj`, `norm_sqr`, the operators between two complex
-/// numbers, multiplication and division by a float, `Sum` and `Display`.
+/// numbers, negation, multiplication with a float on either side, division by a float, `From<f64>`,
+/// `Sum` and `Display`.
 #[derive(Clone, Copy, Debug, Default, PartialEq)]
 pub struct Complex {
     /// The real part.

@@ -104,7 +104,7 @@ pub struct PrecomputedActivePauliRotationKernel {
     pub uniform_imag_pairs: bool,
     /// Whether both masks are not 0, overlap oddly, and the phase exponent is 1 or 3.
     pub real_pair_flip: bool,
-    /// The highest x bit; 0 where diagonal.
+    /// The number of the highest x bit, from 0; 0 where diagonal.
     pub pair_bit: u32,
     /// Half the component's dimension; 0 where diagonal.
     pub pair_count: usize,
@@ -138,7 +138,9 @@ impl Default for PrecomputedActivePauliRotationKernel {
 
 impl PrecomputedActivePauliRotationKernel {
     /// What the amplitude at a basis index adds to the one at `source ^ xmask`: minus i times the
-    /// sine times the index's phase. A sign of true stands for the negated angle.
+    /// sine times the index's phase. A rotation gives index `b ^ xmask` the amplitude
+    /// `state[b ^ xmask] * cos_kernel_angle + coefficient(b, false) * state[b]`. A sign of true
+    /// stands for the negated angle.
     #[inline]
     pub fn coefficient(&self, source: usize, sign: bool) -> Complex {
         let negate = self.action.phase_odd(source) != sign;
@@ -197,8 +199,9 @@ impl Default for PrecomputedActivePauliMeasurementKernel {
 }
 
 impl PrecomputedActivePauliMeasurementKernel {
-    /// Where diagonal: the basis index that is kept as index `packed` of the branch. Planning
-    /// writes pivots below 62; a bit at a pivot of 64 or more is dropped.
+    /// Where diagonal: the basis index that is kept as index `packed` of the branch, which is false
+    /// for the outcome +1 and true for -1. Planning writes pivots below 62; a bit at a pivot of 64
+    /// or more is dropped.
     #[inline]
     pub fn diagonal_source(&self, packed: usize, branch: bool) -> usize {
         let others = insert_zero_bit(packed, self.pivot);
@@ -222,7 +225,8 @@ impl PrecomputedActivePauliMeasurementKernel {
     }
 
     /// Where not diagonal: what the amplitude at the second index is multiplied with in the
-    /// branch; the one at the first is multiplied with the root of one half.
+    /// branch, false for the outcome +1 and true for -1; the one at the first is multiplied with
+    /// the root of one half.
     #[inline]
     pub fn nondiagonal_coefficient1(&self, packed: usize, branch: bool) -> Complex {
         let first = self.nondiagonal_source0(packed);

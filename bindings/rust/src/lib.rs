@@ -36,9 +36,11 @@
 //!
 //! A component is a set of coordinates that the simulator keeps in one small register: its
 //! member j is bit j of that register and of the masks in a row. Coordinate c begins alone in
-//! component c. A record joins the components that it touches: members of the others are
-//! appended to those of the largest (on a tie, the one of the smallest number), which keeps its
-//! number; the others' numbers are not used again.
+//! component c. A record joins the components that it touches: members of the others, by ascending
+//! number and each in its own order, are appended to those of the largest (on a tie, the one of the
+//! smallest number), which keeps its number; the others' numbers are not used again. Where a
+//! measurement takes a member away, those behind it move down. A record that touches none concerns
+//! the component of position 0; a rotation where no coordinate is active is a global phase.
 //!
 //! # Paulis and angles
 //!
@@ -71,7 +73,15 @@
 //! let plan = plan(&head, &[Record::rotation(1, 1, 1, 1, theta / 2.0)]).unwrap();
 //! let kernel = &plan.rotations[0].kernel;
 //! assert_eq!(kernel.action.even_phase, Complex::new(0.0, 1.0));
-//! assert!(kernel.real_pair_flip);
+//!
+//! // Applied to the state 0: the amplitudes are the cosine and the sine of theta / 2.
+//! let state = [Complex::new(1.0, 0.0), Complex::new(0.0, 0.0)];
+//! let turned = [0, 1].map(|target| {
+//!     let source = target ^ kernel.action.xmask as usize;
+//!     state[target] * kernel.cos_kernel_angle + kernel.coefficient(source, false) * state[source]
+//! });
+//! let half: f64 = theta / 2.0;
+//! assert_eq!(turned.map(|amplitude| amplitude.re), [half.cos(), half.sin()]);
 //! # }
 //! ```
 //!

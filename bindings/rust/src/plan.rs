@@ -15,7 +15,7 @@ use crate::rows::{
 /// A whole plan.
 #[derive(Clone, Debug, Default, PartialEq)]
 pub struct ActiveComponentPlan {
-    /// Whether the split pays.
+    /// Whether the split pays, by the rule at [`Summary::selected`].
     pub selected: bool,
     /// The components at the start.
     pub initial_components: usize,
@@ -43,7 +43,8 @@ pub struct ActiveComponentPlan {
     pub component_peak_live_dimension: usize,
     /// The sum of all components' greatest dimensions, at most 2^64 - 1.
     pub component_allocated_dimension: usize,
-    /// The members of each component that lives at the end, in their order.
+    /// The members, which are coordinates in the order of local bits, of each component that lives
+    /// at the end. Each stands there once; in which order they come is left open.
     pub groups: Vec<Vec<usize>>,
 }
 
@@ -123,7 +124,8 @@ fn collect(summary: Summary, buffers: &Buffers<'_>, records: usize) -> ActiveCom
     }
 }
 
-/// Plans records given as words, eight a record, in buffers of its own.
+/// Plans records given as words, eight a record, in buffers of its own. The plan is empty where
+/// `max_k` is below 8 or `nexpvals` is not 0.
 pub fn plan_encoded(head: &Head, records: &[u64]) -> Result<ActiveComponentPlan, Refusal> {
     let whole = records.len() / RECORD_WORDS;
     // More records are refused, or left unread, whatever the buffers.
@@ -134,7 +136,8 @@ pub fn plan_encoded(head: &Head, records: &[u64]) -> Result<ActiveComponentPlan,
     Ok(collect(summary, &buffers, read))
 }
 
-/// Plans records in buffers of its own.
+/// Plans records in buffers of its own. The plan is empty where `max_k` is below 8 or `nexpvals`
+/// is not 0.
 pub fn plan(head: &Head, records: &[Record]) -> Result<ActiveComponentPlan, Refusal> {
     plan_encoded(head, &encode(records))
 }

@@ -33,7 +33,7 @@ pub enum Reason {
     MeasurementWidth,
     /// Number 13: a measurement where no coordinate is active.
     NothingActive,
-    /// Number 14: a join makes a component of 62 members or more.
+    /// Number 14: a join makes a component of 62 members.
     ComponentSize,
     /// Number 15: the pivot is not an active position.
     Pivot,
@@ -43,7 +43,7 @@ pub enum Reason {
     PivotX,
     /// Number 18: the measured x mask is 0 and the z mask, not 0, has no bit at the pivot.
     PivotZ,
-    /// Number 19: the measured x mask is 0 and the phase exponent is 1 or 3.
+    /// Number 19: the measured x mask is 0, the z mask is not, and the phase exponent is 1 or 3.
     Eigenvalues,
     /// Number 20: the measured masks are both 0.
     Identity,
@@ -124,14 +124,16 @@ impl Reason {
                 "the measurement's width is not the number of active coordinates"
             }
             Self::NothingActive => "there is no active coordinate to measure",
-            Self::ComponentSize => "the join makes a component of 62 members or more",
+            Self::ComponentSize => "the join makes a component of 62 members",
             Self::Pivot => "the pivot is not an active position",
             Self::PivotComponent => "the pivot's coordinate is not in the measured component",
             Self::PivotX => "the measured x mask is not 0 and has no bit at the pivot",
             Self::PivotZ => {
                 "the measured x mask is 0 and the z mask, not 0, has no bit at the pivot"
             }
-            Self::Eigenvalues => "the measured x mask is 0 and the phase exponent is 1 or 3",
+            Self::Eigenvalues => {
+                "the measured x mask is 0, the z mask is not, and the phase exponent is 1 or 3"
+            }
             Self::Identity => "the measured masks are both 0",
             Self::Unnamed(_) => "the number has no name in this version",
         }

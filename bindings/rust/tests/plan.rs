@@ -1,6 +1,8 @@
 //! Plans and refusals through the public calls, on circuits whose answers the scope
 //! document gives.
 
+#![cfg(feature = "alloc")]
+
 use midvokt::{
     encode, plan, plan_encoded, plan_into, plan_words, ActiveComponentStepKind, Buffers, Complex,
     Head, Lengths, Reason, Record, Rotation, RESULT_WORDS,

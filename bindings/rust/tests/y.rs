@@ -1,5 +1,7 @@
 //! Rotations about Y as a newcomer writes them, applied to a state with the plan's kernel.
 
+#![cfg(feature = "std")]
+
 use midvokt::{plan, Complex, Head, Record};
 
 const THETA: f64 = 0.7;
