@@ -18,7 +18,7 @@ use Rattle.definition.proofs.Counting.{same-or-not, one-here, member-at, place-
 use Rattle.definition.proofs.Invariant.{Holds, listed-active}
 use Rattle.state.specs.declared.State.{State}
 use Rattle.outputs.specs.Buffers.{Counts, countsFrom, countsOf, CountsFit, wordAt, placedUpTo, PlacesFit}
-use Rattle.representation.specs.Represents.{Represents}
+use Rattle.representation.specs.Represents.{Ordered, Represents}
 use Rattle.representation.proofs.Sources.{stands-in}
 
 -- one number is below another or not
@@ -234,16 +234,16 @@ module _ (start coordinate component place : List ℕ) where
 
 -- ---- the groups of a state
 
--- what the code's two passes make of the groups, with the sizes that it reads
-pub record GroupsWritten (s : State) (cs : List (List ℕ)) (groups sizes : List ℕ) : Type 0 where
+-- what the code's two passes make of the groups, with the sizes and the active order that it reads
+pub record GroupsWritten (s : State) (xs : List ℕ) (cs : List (List ℕ)) (groups sizes : List ℕ) : Type 0 where
   pub fit : CountsFit sizes groups
   pub inside : PlacesFit (countsOf sizes groups .start) (s .component) (s .place) (s .width) (length (countsOf sizes groups .groups))
   pub used : countsOf sizes groups .used ≡ length (groupsOf cs)
-  pub words : placedUpTo (countsOf sizes groups .start) (s .coordinate) (s .component) (s .place) (s .width) (countsOf sizes groups .groups)
+  pub words : placedUpTo (countsOf sizes groups .start) xs (s .component) (s .place) (s .width) (countsOf sizes groups .groups)
       ≡ groupsOf cs ++ drop (length (groupsOf cs)) groups
 
-module _ (s : State) (cs : List (List ℕ)) (r : ActiveOrder) (h : Holds cs r) (rep : Represents s (r .order) cs) (made : length cs ≤ 512) (narrow : length (r .order) ≤ 512)
-    (groups : List ℕ) (room : length (groupsOf cs) ≤ length groups) (most : length (groupsOf cs) ≤ 1024) where
+module _ (s : State) (cs : List (List ℕ)) (r : ActiveOrder) (h : Holds cs r) (rep : Represents s (r .order) cs) (xs : List ℕ) (ordered : Ordered xs (r .order)) (made : length cs ≤ 512)
+    (narrow : length (r .order) ≤ 512) (groups : List ℕ) (room : length (groupsOf cs) ≤ length groups) (most : length (groupsOf cs) ≤ 1024) where
   -- the sizes that the code reads are those of the components
   pub sizes-are : take (s .count) (s .size) ≡ map length cs
   sizes-are =
@@ -272,7 +272,7 @@ module _ (s : State) (cs : List (List ℕ)) (r : ActiveOrder) (h : Holds cs r) (
 
   -- a position's word
   abbrev at : ℕ → ℕ
-  at p = wordAt (counts .start) (s .coordinate) (s .component) (s .place) p
+  at p = wordAt (counts .start) xs (s .component) (s .place) p
 
   -- it is its member's
   at-is : (p : ℕ) → p < length (r .order) → at p ≡ suc (offset cs (getD (s .component) p 0) + getD (s .place) p 0)
@@ -288,10 +288,10 @@ module _ (s : State) (cs : List (List ℕ)) (r : ActiveOrder) (h : Holds cs r) (
       let g = group-inside cs (getD (s .component) p 0) (omega arith) in omega arith
 
   -- and the position's coordinate is the word that is wanted there
-  at-right : (p : ℕ) → p < s .width → getD (s .coordinate) p 0 ≡ getD wanted (at p) 0
+  at-right : (p : ℕ) → p < s .width → getD xs p 0 ≡ getD wanted (at p) 0
   at-right p w =
       let k : p < length (r .order) = let e = rep .width in omega arith in
-      rep .coordinate p k ∙ sym (rep .member p k) ∙ sym (group-member cs (getD (s .component) p 0) (getD (s .place) p 0) (rep .place p k))
+      ordered .entry p k ∙ sym (rep .member p k) ∙ sym (group-member cs (getD (s .component) p 0) (getD (s .place) p 0) (rep .place p k))
       ∙ ap (λ (i : ℕ). getD (groupsOf cs) i 0) (sym (at-is p k))
       ∙ sym (List·getD-append (groupsOf cs) (drop (length (groupsOf cs)) groups) 0 (at p) (at-inside p k))
 
@@ -332,7 +332,7 @@ module _ (s : State) (cs : List (List ℕ)) (r : ActiveOrder) (h : Holds cs r) (
           ∙ sym (getD-append-add (groupsOf cs) (drop n groups) (i - n) 0) ∙ ap (λ (j : ℕ). getD wanted j 0) split
 
   -- the claim for the components' own sizes
-  written : GroupsWritten s cs groups (map length cs)
+  written : GroupsWritten s xs cs groups (map length cs)
   written =
       let u = counts-made .used in
       let z = counts-made .size in
@@ -345,13 +345,13 @@ module _ (s : State) (cs : List (List ℕ)) (r : ActiveOrder) (h : Holds cs r) (
         };
         used = omega arith;
         words =
-            let l = placed-length (counts .start) (s .coordinate) (s .component) (s .place) (s .width) (counts .groups) in
+            let l = placed-length (counts .start) xs (s .component) (s .place) (s .width) (counts .groups) in
             let a = length-append (groupsOf cs) (drop (length (groupsOf cs)) groups) in
             let d = length-drop (length (groupsOf cs)) groups in
-            ext-getD 0 (placedUpTo (counts .start) (s .coordinate) (s .component) (s .place) (s .width) (counts .groups)) wanted (omega arith)
-            (λ i k. placed-right (counts .start) (s .coordinate) (s .component) (s .place) wanted (counts .groups) i (omega arith) (s .width) at-right (sorted i (omega arith)));
+            ext-getD 0 (placedUpTo (counts .start) xs (s .component) (s .place) (s .width) (counts .groups)) wanted (omega arith)
+            (λ i k. placed-right (counts .start) xs (s .component) (s .place) wanted (counts .groups) i (omega arith) (s .width) at-right (sorted i (omega arith)));
       }
 
   -- the groups are written as the definition has them
-  pub groups-written : GroupsWritten s cs groups (take (s .count) (s .size))
-  groups-written = subst (λ (sizes : List ℕ). GroupsWritten s cs groups sizes) (sym sizes-are) written
+  pub groups-written : GroupsWritten s xs cs groups (take (s .count) (s .size))
+  groups-written = subst (λ (sizes : List ℕ). GroupsWritten s xs cs groups sizes) (sym sizes-are) written

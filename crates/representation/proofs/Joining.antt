@@ -209,7 +209,6 @@ module _ (s : State) (order : List ℕ) (cs : List (List ℕ)) (rep : Represents
     represents-join = record {
       width = done .width ∙ rep .width;
       count = done .count ∙ rep .count ∙ sym (length-joined cs sources);
-      coordinate = λ p h. ap (λ (l : List ℕ). getD l p 0) (done .coordinate) ∙ rep .coordinate p h;
       component = λ p h. moved p h .0;
       place = λ p h. moved p h .1;
       member = λ p h. moved p h .2;

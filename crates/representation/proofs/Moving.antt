@@ -1,5 +1,5 @@
--- The state at the start, after a promotion and after a removal stands for the definition's: a promotion sets the entries behind the last, and a removal moves what
--- stands behind the pivot down by one, positions in the order and places in the pivot's component alike.
+-- The state and the active order at the start, after a promotion and after a removal stand for the definition's: a promotion sets the entries behind the last, and a
+-- removal moves what stands behind the pivot down by one, positions in the order and places in the pivot's component alike.
 use mathlib.Core.Path.{_≡_, refl, sym, ap, ap₂, _∙_, subst}
 use mathlib.Core.Logic.{_⊎_, inl, inr, ⊎-elim}
 use mathlib.Core.Bool.{Bool, true, false, cond}
@@ -16,8 +16,8 @@ use Rattle.definition.specs.Connectivity.{Member, NoRepeats}
 use Rattle.definition.proofs.Steps.{cond-yes, cond-no}
 use Rattle.definition.proofs.Counting.{same-or-not, one-here, member-at, length-removeAt, length-numbers, numbers-at}
 use Rattle.state.specs.declared.State.{State}
-use Rattle.state.specs.Steps.{Started, promoted, skip, lowered, BeforeRemoval, Removed}
-use Rattle.representation.specs.Represents.{Represents}
+use Rattle.state.specs.Steps.{InOrder, Closed, Started, promoted, skip, lowered, BeforeRemoval, Removed}
+use Rattle.representation.specs.Represents.{Ordered, Represents}
 
 -- ---- the start
 
@@ -35,13 +35,17 @@ represents-start k s st =
     λ p h. ap (membersOf alone) (st .component p h) ∙ alone-at 0 k p h ∙ ap (λ (a : ℕ). a ∷ []) (omega arith) in record {
       width = st .width ∙ sym wide;
       count = st .count ∙ sym count;
-      coordinate = λ p h. st .coordinate p (omega arith) ∙ sym (numbers-at 0 k p 0 (omega arith) ∙ omega arith);
       component = λ p h. let e = st .component p (omega arith) in omega arith;
       place = λ p h. let e = st .place p (omega arith) in let l = ap length (held p (omega arith)) in omega arith;
       member = λ p h. ap₂ (λ (m : List ℕ) (j : ℕ). getD m j 0) (held p (omega arith)) (st .place p (omega arith)) ∙ sym (numbers-at 0 k p 0 (omega arith) ∙ omega arith);
       size = λ c h. st .size c (omega arith) ∙ sym (ap length (alone-at 0 k c (omega arith)));
       shape = st .shape;
     }
+
+pub ordered-start : (k : ℕ) (xs : List ℕ) → InOrder k xs → Ordered xs (numbersFrom 0 k)
+ordered-start k xs n =
+    let wide = length-numbers 0 k in
+    record { entry = λ p h. n .entry p (omega arith) ∙ sym (numbers-at 0 k p 0 (omega arith) ∙ omega arith); long = n .long }
 
 -- ---- a promotion
 
@@ -55,6 +59,17 @@ snoc-new d xs a i e = ap (λ (n : ℕ). getD (xs ++ (a ∷ [])) n d) e ∙ getD-
 -- what holds of the last number and of those before holds of all
 last-or-before : {P : ℕ → Type 0} {m n : ℕ} → m ≡ suc n → ((p : ℕ) → p < n → P p) → ((p : ℕ) → p ≡ n → P p) → (p : ℕ) → p < m → P p
 last-or-before {n = n} e f g p h = ⊎-elim (λ k. g p k) (λ k. f p (omega arith)) (same-or-not p n)
+
+-- a coordinate is put behind the last
+pub ordered-promotion : (xs order : List ℕ) → Ordered xs order → length order < 512 → (width next : ℕ) → width ≡ length order → Ordered (set xs width next) (order ++ (next ∷ []))
+ordered-promotion xs order o narrow width next w =
+    let more : length (order ++ (next ∷ [])) ≡ suc (length order) = let l = length-append order (next ∷ []) in omega arith in
+    let long = o .long in record {
+      entry = last-or-before more
+          (λ p h. getD-set-other xs width p next 0 (λ e. omega arith) ∙ o .entry p h ∙ sym (snoc-old 0 order next p h))
+          (λ p e. ap (λ (i : ℕ). getD (set xs width next) i 0) (omega arith) ∙ getD-set-same xs width next 0 (omega arith) ∙ sym (snoc-new 0 order next p e));
+      long = length-set xs width next ∙ long;
+    }
 
 module _ (s : State) (order : List ℕ) (cs : List (List ℕ)) (rep : Represents s order cs) (narrow : length order < 512) (made : length cs < 512) where
   abbrev next : ℕ
@@ -85,9 +100,6 @@ module _ (s : State) (order : List ℕ) (cs : List (List ℕ)) (rep : Represents
       let more : length order' ≡ suc (length order) = omega arith in record {
         width = omega arith;
         count = omega arith;
-        coordinate = last-or-before more
-            (λ p h. kept (s .coordinate) (s .count) p h ∙ rep .coordinate p h ∙ sym (snoc-old 0 order next p h))
-            (λ p e. put (s .coordinate) (s .count) p (sh .coordinates) e ∙ c ∙ sym (snoc-new 0 order next p e));
         component = last-or-before more
             (λ p h. let e = kept (s .component) (s .count) p h in let b = rep .component p h in omega arith)
             (λ p e. let f = put (s .component) (s .count) p (sh .components) e in omega arith);
@@ -109,7 +121,6 @@ module _ (s : State) (order : List ℕ) (cs : List (List ℕ)) (rep : Represents
             (λ n. getD-set-other (s .size) (s .count) d 1 0 (λ f. n (f ∙ c)) ∙ rep .size d (omega arith) ∙ sym (ap length (snoc-old [] cs (next ∷ []) d (omega arith))))
             (same-or-not d next);
         shape = record {
-          coordinates = length-set (s .coordinate) (s .width) (s .count) ∙ sh .coordinates;
           components = length-set (s .component) (s .width) (s .count) ∙ sh .components;
           places = length-set (s .place) (s .width) 0 ∙ sh .places;
           sizes = length-set (s .size) (s .count) 1 ∙ sh .sizes;
@@ -148,6 +159,17 @@ removed-at d p i xs l =
     (λ b. removed-before d p i xs (b .0) ∙ sym (ap (λ (n : ℕ). getD xs n d) (b .1)))
     (λ b. removed-after d p i xs l (b .0) ∙ sym (ap (λ (n : ℕ). getD xs n d) (b .1)))
     (skip-cases p i)
+
+-- a coordinate leaves
+pub ordered-removal : (xs ys order : List ℕ) → Ordered xs order → (pivot last : ℕ) → pivot < length order → suc last ≡ length order → Closed pivot last xs ys
+    → Ordered ys (removeAt pivot order)
+ordered-removal xs ys order o pivot last active l done =
+    let fewer = length-removeAt pivot order active in record {
+      entry = λ p h. done .entry p (omega arith)
+          ∙ o .entry (skip pivot p) (⊎-elim (λ b. let e = b .1 in omega arith) (λ b. let e = b .1 in omega arith) (skip-cases pivot p))
+          ∙ sym (removed-at 0 pivot p order active);
+      long = done .long;
+    }
 
 -- without repeats an entry stands at one position
 pub once-at : (xs : List ℕ) → NoRepeats xs → (i j : ℕ) → i < length xs → j < length xs → getD xs i 0 ≡ getD xs j 0 → i ≡ j
@@ -241,9 +263,6 @@ module _ (s : State) (order : List ℕ) (cs : List (List ℕ)) (rep : Represents
         let same = length-set cs target left in record {
           width = let e = done .width in omega arith;
           count = done .count ∙ rep .count ∙ sym same;
-          coordinate = λ p h. done .coordinate p (omega arith) ∙ rep .coordinate (skip pivot p)
-              (⊎-elim (λ b. let e = b .1 in omega arith) (λ b. let e = b .1 in omega arith) (skip-cases pivot p))
-              ∙ sym (removed-at 0 pivot p order active);
           component = λ p h. let e = done .component p (omega arith) in
               let b = rep .component (skip pivot p) (⊎-elim (λ b. let e = b .1 in omega arith) (λ b. let e = b .1 in omega arith) (skip-cases pivot p)) in omega arith;
           place = λ p h. stays p (omega arith) .0;

@@ -7,11 +7,15 @@ use Rattle.state.specs.declared.State.{State}
 use Rattle.state.specs.Steps.{Shape}
 use Rattle.definition.specs.Components.{membersOf, sizeOf}
 
+-- by active position: the coordinate there
+pub record Ordered (xs order : List ℕ) : Type 0 where
+  pub entry : (p : ℕ) → p < length order → getD xs p 0 ≡ getD order p 0
+  pub long : length xs ≡ 512
+
 -- by active position: the coordinate there is the member of its component at its place; by component number: how many members it has
 pub record Represents (s : State) (order : List ℕ) (cs : List (List ℕ)) : Type 0 where
   pub width : s .width ≡ length order
   pub count : s .count ≡ length cs
-  pub coordinate : (p : ℕ) → p < length order → getD (s .coordinate) p 0 ≡ getD order p 0
   pub component : (p : ℕ) → p < length order → getD (s .component) p 0 < length cs
   pub place : (p : ℕ) → p < length order → getD (s .place) p 0 < sizeOf cs (getD (s .component) p 0)
   pub member : (p : ℕ) → p < length order → getD (membersOf cs (getD (s .component) p 0)) (getD (s .place) p 0) 0 ≡ getD order p 0

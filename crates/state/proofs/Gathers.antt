@@ -34,7 +34,6 @@ moved rise target c = cond (eqb (getD rise c 0) 0) c target
 
 -- the positions below p are done, and those from p on as they were
 pub record Passed (s₀ : State) (rise : List ℕ) (target : ℕ) (s : State) (p : ℕ) : Type 0 where
-  pub coordinate : s .coordinate ≡ s₀ .coordinate
   pub size : s .size ≡ s₀ .size
   pub width : s .width ≡ s₀ .width
   pub count : s .count ≡ s₀ .count
@@ -54,7 +53,6 @@ module _ {s₀ s : State} {rise : List ℕ} {target p : ℕ} (so : Passed s₀ r
   passed-same none next e =
       let test = eq-eqb _ _ (sym rise-here ∙ none) in
       subst (λ (r : State). Passed s₀ rise target r (p + 1)) (sym e) (record {
-        coordinate = so .coordinate;
         size = so .size;
         width = so .width;
         count = so .count;
@@ -71,7 +69,6 @@ module _ {s₀ s : State} {rise : List ℕ} {target p : ℕ} (so : Passed s₀ r
       → (next : State)
       → next
       ≡ record {
-        coordinate = s .coordinate;
         component = set (s .component) p target;
         place = set (s .place) p (getD (s .place) p 0 + getD rise (getD (s .component) p 0) 0);
         size = s .size;
@@ -82,7 +79,6 @@ module _ {s₀ s : State} {rise : List ℕ} {target p : ℕ} (so : Passed s₀ r
   passed-moved inside number some next e =
       let test = ne-eqb _ _ (λ (e : getD rise (getD (s₀ .component) p 0) 0 ≡ 0). some (rise-here ∙ e)) in
       subst (λ (r : State). Passed s₀ rise target r (p + 1)) (sym e) (record {
-        coordinate = so .coordinate;
         size = so .size;
         width = so .width;
         count = so .count;

@@ -8,9 +8,26 @@ use lib.ListN.{length, getD, set, drop, replicate}
 use Rattle.positions.specs.Positions.{Below512}
 use Rattle.state.specs.declared.State.{State}
 
+-- ---- the active order
+
+-- "coordinates 0 to initial_k - 1 in order"
+pub record InOrder (k : ℕ) (order : List ℕ) : Type 0 where
+  pub entry : (p : ℕ) → p < k → getD order p 0 ≡ p
+  pub long : length order ≡ 512
+
+-- the position before a removal of what stands at p after it
+abbrev pub skip : ℕ → ℕ → ℕ
+skip pivot p = cond (ltb p pivot) p (suc p)
+
+-- "the coordinate at the pivot's active position leaves, the order otherwise kept"
+pub record Closed (pivot last : ℕ) (before after : List ℕ) : Type 0 where
+  pub entry : (p : ℕ) → p < last → getD after p 0 ≡ getD before (skip pivot p) 0
+  pub long : length after ≡ 512
+
+-- ---- the state
+
 -- the arrays have 512 entries each, and every component number stands below 512
 pub record Shape (s : State) : Type 0 where
-  pub coordinates : length (s .coordinate) ≡ 512
   pub components : length (s .component) ≡ 512
   pub places : length (s .place) ≡ 512
   pub sizes : length (s .size) ≡ 512
@@ -18,7 +35,6 @@ pub record Shape (s : State) : Type 0 where
 
 -- "Start: coordinates 0 to initial_k - 1 in order, each alone in the component of its number"
 pub record Started (k : ℕ) (r : State) : Type 0 where
-  pub coordinate : (p : ℕ) → p < k → getD (r .coordinate) p 0 ≡ p
   pub component : (p : ℕ) → p < k → getD (r .component) p 0 ≡ p
   pub place : (p : ℕ) → p < k → getD (r .place) p 0 ≡ 0
   pub size : (c : ℕ) → c < k → getD (r .size) c 0 ≡ 1
@@ -60,7 +76,6 @@ pub record Joinable (size sources : List ℕ) : Type 0 where
   pub few : gathering size sources .grown ≤ 255
 
 pub record Joined (s : State) (sources : List ℕ) (r : State) : Type 0 where
-  pub coordinate : r .coordinate ≡ s .coordinate
   pub component : (p : ℕ) → p < s .width → getD (r .component) p 0 ≡ cond (eqb (riseAt s sources p) 0) (getD (s .component) p 0) (targetOf sources)
   pub place : (p : ℕ) → p < s .width → getD (r .place) p 0 ≡ getD (s .place) p 0 + riseAt s sources p
   pub size : r .size ≡ sizesAfter (s .size) sources
@@ -79,7 +94,6 @@ pub record BeforeJoin (s : State) (sources : List ℕ) : Type 0 where
 
 unfoldable pub promoted : State → State
 promoted s = record {
-  coordinate = set (s .coordinate) (s .width) (s .count);
   component = set (s .component) (s .width) (s .count);
   place = set (s .place) (s .width) 0;
   size = set (s .size) (s .count) 1;
@@ -89,16 +103,11 @@ promoted s = record {
 
 -- ---- "the coordinate at the pivot's active position leaves, the order otherwise kept"
 
--- the position before a removal of what stands at p after it
-abbrev pub skip : ℕ → ℕ → ℕ
-skip pivot p = cond (ltb p pivot) p (suc p)
-
 -- the place j of a member of c, after the member at place q of the component t has left
 abbrev pub lowered : ℕ → ℕ → ℕ → ℕ → ℕ
 lowered t q c j = cond (eqb c t) (cond (ltb q j) (j - 1) j) j
 
 pub record Removed (s : State) (pivot : ℕ) (r : State) : Type 0 where
-  pub coordinate : (p : ℕ) → suc p < s .width → getD (r .coordinate) p 0 ≡ getD (s .coordinate) (skip pivot p) 0
   pub component : (p : ℕ) → suc p < s .width → getD (r .component) p 0 ≡ getD (s .component) (skip pivot p) 0
   pub place : (p : ℕ) → suc p < s .width
       → getD (r .place) p 0 ≡ lowered (getD (s .component) pivot 0) (getD (s .place) pivot 0) (getD (s .component) (skip pivot p) 0) (getD (s .place) (skip pivot p) 0)

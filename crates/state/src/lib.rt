@@ -1,13 +1,14 @@
 // The state of planning, by active position. No member lists are kept: member j of a component is the coordinate at the
-// position that has that component and that place.
+// position that has that component and that place. Which coordinate that is stands beside the state, in the active order:
+// only the groups ask for it, and what the steps take and return by value is smaller without it.
 ghost use mathlib.Core.Path.{_≡_};
 ghost use Prim.Native.Nat.{_≤_, _<_};
-ghost use Rattle.state.specs.Steps.{Started, Joinable, gathering, sizesAfter, BeforeJoin, Joined, promoted, BeforeRemoval, Removed};
+ghost use lib.ListN.{length, set};
+ghost use Rattle.state.specs.Steps.{InOrder, Closed, Started, Joinable, gathering, sizesAfter, BeforeJoin, Joined, promoted, BeforeRemoval, Removed};
 ghost use Rattle.state.specs.Steps as Steps;
 
 pub struct State {
-    // by active position: the coordinate there, its component, and its index among that component's members
-    pub coordinate: [u16; 512],
+    // by active position: the component of the coordinate there, and its index among that component's members
     pub component: [u16; 512],
     pub place: [u8; 512],
     // by component number: how many members it has, 0 once joined away or emptied
@@ -15,6 +16,40 @@ pub struct State {
     // how many coordinates are active, and how many components were ever made
     pub width: usize,
     pub count: usize,
+}
+
+// The active order at the start: coordinates 0 to k - 1.
+pub fn first_order(k: usize) -> [u16; 512]
+    requires { ⌜ k ≤ 512 ⌝ }
+    ensures { λ r. ⌜ InOrder k r ⌝ }
+{
+    let mut order = [0u16; 512];
+    let mut i: usize = 0;
+    while i < k {
+        order[i] = i as u16;
+        i += 1;
+    }
+    order
+}
+
+// A coordinate behind the last of the active order.
+pub fn append(order: &mut [u16; 512], width: usize, coordinate: usize)
+    requires { ⌜ (width < 512) × (coordinate < 512) ⌝ }
+    ensures { λ _. ⌜ now (order .exit) ≡ set (now (order .entry)) width coordinate ⌝ }
+{
+    order[width] = coordinate as u16;
+}
+
+// The coordinate at a position leaves the active order, and those behind it, up to the last, move down.
+pub fn close_gap(order: &mut [u16; 512], pivot: usize, last: usize)
+    requires { ⌜ (pivot ≤ last) × (last < 512) × (length (now order) ≡ 512) ⌝ }
+    ensures { λ _. ⌜ Closed pivot last (now (order .entry)) (now (order .exit)) ⌝ }
+{
+    let mut p = pivot;
+    while p < last {
+        order[p] = order[p + 1];
+        p += 1;
+    }
 }
 
 // Gives the first of the sources the sizes of all, and the others none. Returns by how much a join raises the places of each
@@ -64,7 +99,6 @@ impl State {
         ensures { λ r. ⌜ Started k r ⌝ }
     {
         let mut state = State {
-            coordinate: [0u16; 512],
             component: [0u16; 512],
             place: [0u8; 512],
             size: [0u8; 512],
@@ -73,7 +107,6 @@ impl State {
         };
         let mut i: usize = 0;
         while i < k {
-            state.coordinate[i] = i as u16;
             state.component[i] = i as u16;
             state.size[i] = 1;
             i += 1;
@@ -109,7 +142,6 @@ impl State {
     {
         let width = self.width;
         let count = self.count;
-        self.coordinate[width] = count as u16;
         self.component[width] = count as u16;
         self.place[width] = 0;
         self.size[count] = 1;
@@ -131,7 +163,6 @@ impl State {
             let q = skip(pivot, p);
             let c = self.component[q];
             let place = self.place[q];
-            self.coordinate[p] = self.coordinate[q];
             self.component[p] = c;
             self.place[p] = lower(target, local, c, place);
             p += 1;

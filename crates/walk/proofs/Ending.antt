@@ -23,6 +23,7 @@ use Rattle.tally.specs.declared.Tally.{Tally}
 use Rattle.state.specs.Steps.{Started}
 use Rattle.tally.specs.Tally.{startTally}
 use Rattle.outputs.specs.Buffers.{countsOf, placedUpTo}
+use Rattle.representation.specs.Represents.{Ordered}
 use Rattle.representation.proofs.Moving.{represents-start}
 use Rattle.representation.proofs.Groups.{GroupsWritten, groups-written}
 use Rattle.walk.specs.Walking.{Buffers, SameLengths, lengthsOf, WalkEnds, Walkable}
@@ -68,21 +69,21 @@ reached-start limit k is s c sizes st e = record {
 -- ---- the end
 
 module _ (limit k : ℕ) (ws : List ℕ) (b : Buffers) (ok : Walkable k ws b) (i : ℕ) (all : i ≡ length ws / 8) (w : Walk) (s : State) (t : Tally) (c : Buffers)
-    (at : Reached limit k (instructionsOf ws) i w s t c) (long : SameLengths b c) where
+    (at : Reached limit k (instructionsOf ws) i w s t c) (long : SameLengths b c) (o : List ℕ) (ordered : Ordered o (w .order)) where
   upto : i ≤ length ws / 8
   upto = omega arith
 
   pub count-small : s .count ≤ 512
   count-small = let e = at .rep .count in let f = made limit k ws b ok i upto w s t c at in omega arith
 
-  pub groups-here : GroupsWritten s (w .components) (c .groups) (take (s .count) (s .size))
+  pub groups-here : GroupsWritten s o (w .components) (c .groups) (take (s .count) (s .size))
   groups-here =
       let r = activeAfter (activeStart k) (take i (instructionsOf ws)) in
       let tr = tracked limit k ws b ok i upto w s t c at in
       let few = groups-small limit k ws b ok i upto w s t c at in
       let room = enough (length ws / 8) (lengthsOf b) (ok .room) .groups in
       let l = long .groups in
-      groups-written s (w .components) (activeOf w r) (tracked-here w r tr) (at .rep) (made limit k ws b ok i upto w s t c at) (active-most limit k ws b ok i upto w s t c at)
+      groups-written s (w .components) (activeOf w r) (tracked-here w r tr) (at .rep) o ordered (made limit k ws b ok i upto w s t c at) (active-most limit k ws b ok i upto w s t c at)
       (c .groups) (omega arith) few
 
   finishes : walkFrom limit 0 (start k) (instructionsOf ws) ≡ finished w
@@ -90,7 +91,7 @@ module _ (limit k : ℕ) (ws : List ℕ) (b : Buffers) (ok : Walkable k ws b) (i
   finishes = at .ahead ∙ ap (walkFrom limit i w) (drop-of-length-le (instructionsOf ws) {i = i} (let l = instructions-length ws in omega arith))
 
   pub ends : (used : ℕ) (groups' : List ℕ) → used ≡ countsOf (take (s .count) (s .size)) (c .groups) .used
-      → groups' ≡ placedUpTo (countsOf (take (s .count) (s .size)) (c .groups) .start) (s .coordinate) (s .component) (s .place) (s .width) (countsOf (take (s .count) (s .size)) (c .groups) .groups)
+      → groups' ≡ placedUpTo (countsOf (take (s .count) (s .size)) (c .groups) .start) o (s .component) (s .place) (s .width) (countsOf (take (s .count) (s .size)) (c .groups) .groups)
       → WalkEnds (walkFrom limit 0 (start k) (instructionsOf ws)) (W.Finished (record { tally = t; count = s .count; groups = used }))
       (record {
         steps = c .steps;

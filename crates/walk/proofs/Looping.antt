@@ -8,7 +8,7 @@ use Prim.Native.Nat.{ℕ, _+_, _-_, _*_, _/_, _^_, _≤_, _<_}
 use native.Mathlib.Omega.{arith}
 use lib.Dec.{eqb, leb}
 use lib.Ieee.{Float}
-use lib.ListN.{length, getD, take, drop, replicate, length-append, length-take}
+use lib.ListN.{length, getD, set, take, drop, replicate, length-append, length-take}
 use Rattle.kernels.specs.Bits.{dimension, bitAt}
 use Rattle.kernels.specs.Active.{Answer, given, refused, ofDimension, rotation, measurement, nondiagonal, diagonal, imaginary, rotationKernel}
 use Rattle.kernels.specs.declared.active.ActivePauliAction.{ActivePauliAction}
@@ -28,10 +28,11 @@ use Rattle.definition.proofs.Room.{widthOf, enough}
 use Rattle.state.specs.declared.State.{State}
 use Rattle.tally.specs.declared.Tally.{Tally}
 use Rattle.tally.specs.declared.Joining.{Joining}
-use Rattle.state.specs.Steps.{Started, BeforeJoin, Joined, promoted, BeforeRemoval, Removed}
+use Rattle.state.specs.Steps.{InOrder, Closed, Started, BeforeJoin, Joined, promoted, BeforeRemoval, Removed}
 use Rattle.tally.specs.Tally.{startTally, joiningOf, ignoredTally}
 use Rattle.outputs.specs.Buffers.{patch, countsOf, CountsFit, placedUpTo, PlacesFit}
-use Rattle.representation.specs.Represents.{Represents}
+use Rattle.representation.specs.Represents.{Ordered, Represents}
+use Rattle.representation.proofs.Moving.{ordered-start, ordered-promotion, ordered-removal}
 use Rattle.walk.specs.Walking.{Buffers, SameLengths, lengthsOf, Begins, WalkEnds, Walkable}
 use Rattle.walk.specs.declared.Walked.the-variants as W
 use Rattle.turns.specs.Turns.{sourcesAt, GatherFits, numberBefore, sourcesBefore, WhereJoined, joinBefore, localActionOf, Settled, JoinedFits, rotationAnswer, RotationDone, measurementAnswer, MeasurementDone, PromotionFits, PromotionDone}
@@ -44,14 +45,15 @@ use Rattle.walk.proofs.Ending.{reached-start}
 use Rattle.turns.proofs.Patches.{patch-none, part-of-patch}
 use Rattle.turns.proofs.Openings.{rotation-empty}
 
--- After i of n records: b are the buffers where the loop begins, and c those that there are now
-pub record Looping (limit k : ℕ) (ws : List ℕ) (n i : ℕ) (s : State) (t : Tally) (b c : Buffers) : Type 0 where
+-- After i of n records: o is the active order; b are the buffers where the loop begins, and c those that there are now
+pub record Looping (limit k : ℕ) (ws : List ℕ) (n i : ℕ) (o : List ℕ) (s : State) (t : Tally) (b c : Buffers) : Type 0 where
   pub ok : Walkable k ws b
   pub count : n ≡ length ws / 8
   pub upto : i ≤ n
   pub long : SameLengths b c
   pub w : Walk
   pub at : Reached limit k (instructionsOf ws) i w s t c
+  pub ordered : Ordered o (w .order)
 
 -- ---- answers by their numbers
 
@@ -142,14 +144,14 @@ no-words [] e = refl
 no-words (x ∷ xs) e = absurd (omega arith)
 
 -- "over 8,192" words was not met
-pub records-few : {limit k : ℕ} {ws : List ℕ} {n i : ℕ} {s : State} {t : Tally} {b c : Buffers} → Looping limit k ws n i s t b c → n ≤ 1024
+pub records-few : {limit k : ℕ} {ws : List ℕ} {n i : ℕ} {o : List ℕ} {s : State} {t : Tally} {b c : Buffers} → Looping limit k ws n i o s t b c → n ≤ 1024
 records-few {limit = limit} {k = k} {ws = ws} {i = i} {s = s} {t = t} {b = b} {c = c} lo =
     let e = lo .count in
     let f = few-records limit k ws b (lo .ok) i (let u = lo .upto in omega arith) (lo .w) s t c (lo .at) in omega arith
 
 -- ---- one turn
 
-module _ {limit k : ℕ} {ws : List ℕ} {n i : ℕ} {s : State} {t : Tally} {b c : Buffers} (lo : Looping limit k ws n i s t b c) (more : i < n) (x : Instruction)
+module _ {limit k : ℕ} {ws : List ℕ} {n i : ℕ} {o : List ℕ} {s : State} {t : Tally} {b c : Buffers} (lo : Looping limit k ws n i o s t b c) (more : i < n) (x : Instruction)
     (now : getD (instructionsOf ws) i DormantBranch ≡ x) where
   next : i < length ws / 8
   next = let e = lo .count in omega arith
@@ -209,8 +211,9 @@ module _ {limit k : ℕ} {ws : List ℕ} {n i : ℕ} {s : State} {t : Tally} {b 
   unmerged merges' e f = f ∙ ap (λ (l : List ℕ). patch (t .merges) l (c .merges)) (no-words sources e) ∙ patch-none (t .merges) (c .merges)
 
   -- one record more
-  on : {u : State} {t' : Tally} {c' : Buffers} (v : Walk) → Reached limit k (instructionsOf ws) (i + 1) v u t' c' → SameLengths b c' → Looping limit k ws n (i + 1) u t' b c'
-  on v at long = record { ok = lo .ok; count = lo .count; upto = omega arith; long = long; w = v; at = at }
+  on : {o' : List ℕ} {u : State} {t' : Tally} {c' : Buffers} (v : Walk) → Reached limit k (instructionsOf ws) (i + 1) v u t' c' → SameLengths b c' → Ordered o' (v .order)
+      → Looping limit k ws n (i + 1) o' u t' b c'
+  on v at long ordered = record { ok = lo .ok; count = lo .count; upto = omega arith; long = long; w = v; at = at; ordered = ordered }
 
   -- ---- a record that joins
 
@@ -269,14 +272,15 @@ module _ {limit k : ℕ} {ws : List ℕ} {n i : ℕ} {s : State} {t : Tally} {b 
 
     pub ignored-goes : (u : State) (t' : Tally) (c' : Buffers) → t' ≡ ignoredTally t → length sources ≡ 0 → Met u → c' .steps ≡ patch (2 * i) (1 ∷ 0 ∷ []) (c .steps)
         → c' .merges ≡ patch (t .merges) sources (c .merges) → c' .sizes ≡ c .sizes → c' .rotations ≡ c .rotations → c' .promotions ≡ c .promotions
-        → c' .measurements ≡ c .measurements → SameLengths b c' → Looping limit k ws n (i + 1) u t' b c'
+        → c' .measurements ≡ c .measurements → SameLengths b c' → Looping limit k ws n (i + 1) o u t' b c'
+    unfolding ignoredStep
     ignored-goes u t' c' sums none-there m steps merges sizes rotations promotions measurements long =
         on (ignoredStep (lo .w))
         (subst (λ (a : Tally). Reached limit k (instructionsOf ws) (i + 1) (ignoredStep (lo .w)) u a c') (sym sums)
         (reached-same
         (T.ignored-goes limit k ws b (lo .ok) i next (lo .w) s t c (lo .at) (lo .long) width a z phase angle sine cosine (c' .steps) rotation-now rotation-wide (rotation-none none-there) steps)
         (unjoined u none-there m) refl (unmerged (c' .merges) none-there merges) sizes rotations promotions measurements))
-        long
+        long (lo .ordered)
 
     module _ (some-there : length sources ≡ 0 → ⊥) where
       rotation-active : 0 < length (lo .w .order)
@@ -319,7 +323,8 @@ module _ {limit k : ℕ} {ws : List ℕ} {n i : ℕ} {s : State} {t : Tally} {b 
         pub rotate-goes : (number : ℕ) (t' : Tally) (c' : Buffers)
             → Settled turned number (RotationDone (s .width) i jn t t' (c .steps) (c .sizes) (c .rotations) (c' .steps) (c' .sizes) (c' .rotations)) → number ≡ 0
             → c' .merges ≡ patch (t .merges) sources (c .merges) → c' .promotions ≡ c .promotions → c' .measurements ≡ c .measurements → SameLengths b c'
-            → Looping limit k ws n (i + 1) u t' b c'
+            → Looping limit k ws n (i + 1) o u t' b c'
+        unfolding rotationStep
         rotate-goes number t' c' settled f merges promotions measurements long =
             let went = settled-goes turned number _ settled f (rotation-numbered limit _ phase angle sine cosine) in
             let same = join-is a z rotation-active rotation-small rotation-joined jn made-so in
@@ -328,7 +333,7 @@ module _ {limit k : ℕ} {ws : List ℕ} {n i : ℕ} {s : State} {t : Tally} {b 
             (sym answer-same ∙ went .1)
             (subst (λ (q : Joining). RotationDone (s .width) i q t t' (c .steps) (c .sizes) (c .rotations) (c' .steps) (c' .sizes) (c' .rotations) (went .0)) same (went .2))
             (merges ∙ ap (λ (l : List ℕ). patch (t .merges) l (c .merges)) rotation-joined) promotions measurements)
-            long
+            long (lo .ordered)
 
   -- ---- measurements
 
@@ -380,12 +385,21 @@ module _ {limit k : ℕ} {ws : List ℕ} {n i : ℕ} {s : State} {t : Tally} {b 
             T.removal-fits limit k ws b (lo .ok) i next (lo .w) s t c (lo .at) (lo .long) a z (passed .1) measurement-small u stands-so width phase pivot measurement-now (passed .0) (went .0)
             (sym found-same ∙ went .1)
 
-      pub measure-goes : (number : ℕ) (t' : Tally) (c' : Buffers) (v : State)
+      -- the order's last position, once the pivot has left
+      pub gap-fits : (v : State) → Removed u pivot v → BeforeRemoval u pivot → (pivot ≤ v .width) × (v .width < 512) × (length o ≡ 512)
+      gap-fits v removed before =
+          let e = removed .width in
+          let f = before .active in
+          let g = before .narrow in
+          (omega arith, omega arith, lo .ordered .long)
+
+      pub measure-goes : (number : ℕ) (t' : Tally) (c' : Buffers) (v : State) (o' : List ℕ)
           → Settled found number (MeasurementDone (s .width) i jn t t' (c .steps) (c .sizes) (c .measurements) (c' .steps) (c' .sizes) (c' .measurements)) → number ≡ 0
-          → Removed u pivot v
+          → Removed u pivot v → Closed pivot (v .width) o o'
           → c' .merges ≡ patch (t .merges) sources (c .merges) → c' .promotions ≡ c .promotions → c' .rotations ≡ c .rotations → SameLengths b c'
-          → Looping limit k ws n (i + 1) v t' b c'
-      measure-goes number t' c' v settled f removed merges promotions rotations long =
+          → Looping limit k ws n (i + 1) o' v t' b c'
+      unfolding measurementStep
+      measure-goes number t' c' v o' settled f removed closed merges promotions rotations long =
           let went = settled-goes found number _ settled f (answer-numbered limit (u .component) (u .place) a z phase pivot (s .width) jn) in
           let same = join-is a z (passed .1) measurement-small measurement-joined jn made-so in
           on (measurementStep (lo .w) (joinOf a z (lo .w)) pivot (went .0))
@@ -394,6 +408,8 @@ module _ {limit k : ℕ} {ws : List ℕ} {n i : ℕ} {s : State} {t : Tally} {b 
           (subst (λ (q : Joining). MeasurementDone (s .width) i q t t' (c .steps) (c .sizes) (c .measurements) (c' .steps) (c' .sizes) (c' .measurements) (went .0)) same (went .2))
           (merges ∙ ap (λ (l : List ℕ). patch (t .merges) l (c .merges)) measurement-joined) promotions rotations)
           long
+          (let w = stands-so .width in let active = remove-asks number _ settled f .active in let fewer = removed .width in
+          ordered-removal o o' (lo .w .order) (lo .ordered) pivot (v .width) (omega arith) (omega arith) closed)
 
   -- ---- promotions
 
@@ -419,11 +435,12 @@ module _ {limit k : ℕ} {ws : List ℕ} {n i : ℕ} {s : State} {t : Tally} {b 
           subst (λ (v : State). (v .width < 512) × (v .count < 512)) (sym same-state)
           (T.state-room limit k ws b (lo .ok) i next (lo .w) s t c (lo .at) (lo .long) promotion-now)
 
-      pub promote-goes : (t' : Tally) (c' : Buffers) (v : State)
+      pub promote-goes : (t' : Tally) (c' : Buffers) (v : State) (o' : List ℕ)
           → PromotionDone (u .count) (s .width) i t t' (c .steps) (c .sizes) (c .promotions) (c' .steps) (c' .sizes) (c' .promotions) → v ≡ promoted u
-          → c' .merges ≡ patch (t .merges) sources (c .merges) → c' .rotations ≡ c .rotations → c' .measurements ≡ c .measurements → SameLengths b c'
-          → Looping limit k ws n (i + 1) v t' b c'
-      promote-goes t' c' v d e merges rotations measurements long =
+          → o' ≡ set o (u .width) (u .count) → c' .merges ≡ patch (t .merges) sources (c .merges) → c' .rotations ≡ c .rotations → c' .measurements ≡ c .measurements → SameLengths b c'
+          → Looping limit k ws n (i + 1) o' v t' b c'
+      unfolding promotionStep
+      promote-goes t' c' v o' d e appended merges rotations measurements long =
           on (promotionStep (lo .w))
           (reached-same
           (T.promotion-goes limit k ws b (lo .ok) i next (lo .w) s t c (lo .at) (lo .long) promotion-now t' c'
@@ -431,19 +448,24 @@ module _ {limit k : ℕ} {ws : List ℕ} {n i : ℕ} {s : State} {t : Tally} {b 
           (unmerged (c' .merges) no-sources merges) rotations measurements)
           (e ∙ ap promoted same-state) refl refl refl refl refl refl)
           long
+          (subst (λ (l : List ℕ). Ordered l (lo .w .order ++ (length (lo .w .components) ∷ [])))
+          (sym (appended ∙ ap (λ (y : State). set o (y .width) (y .count)) same-state ∙ ap (set o (s .width)) (lo .at .rep .count)))
+          (ordered-promotion o (lo .w .order) (lo .ordered)
+          (let f = T.state-room limit k ws b (lo .ok) i next (lo .w) s t c (lo .at) (lo .long) promotion-now .0 in omega (arith, wide)) (s .width) (length (lo .w .components)) wide))
 
   -- ---- records that do nothing
 
   module _ (plain : step limit (lo .w) x ≡ given (noStep (lo .w))) (none-there : length sources ≡ 0) (u : State) (m : Met u) where
     pub plain-goes : (c' : Buffers) → c' .steps ≡ patch (2 * i) (0 ∷ 0 ∷ []) (c .steps)
         → c' .merges ≡ patch (t .merges) sources (c .merges) → c' .sizes ≡ c .sizes → c' .rotations ≡ c .rotations → c' .promotions ≡ c .promotions
-        → c' .measurements ≡ c .measurements → SameLengths b c' → Looping limit k ws n (i + 1) u t b c'
+        → c' .measurements ≡ c .measurements → SameLengths b c' → Looping limit k ws n (i + 1) o u t b c'
+    unfolding noStep
     plain-goes c' steps merges sizes rotations promotions measurements long =
         on (noStep (lo .w))
         (reached-same
         (T.plain-goes limit k ws b (lo .ok) i next (lo .w) s t c (lo .at) (lo .long) (c' .steps) (ap (step limit (lo .w)) now ∙ plain) steps)
         (unjoined u none-there m) refl (unmerged (c' .merges) none-there merges) sizes rotations promotions measurements)
-        long
+        long (lo .ordered)
 
   -- room for the step, and for one more quantum instruction
   pub step-room : 2 * i + 2 ≤ length (c .steps)
@@ -487,10 +509,11 @@ withSizes b sizes = record {
   groups = b .groups;
 }
 
-pub begins : (limit k : ℕ) (ws : List ℕ) (b : Buffers) (sizes : List ℕ) (s : State) (t : Tally) → Walkable k ws b → Started k s → t ≡ startTally k
+pub begins : (limit k : ℕ) (ws : List ℕ) (b : Buffers) (sizes o : List ℕ) (s : State) (t : Tally) → Walkable k ws b → InOrder k o → Started k s → t ≡ startTally k
     → sizes ≡ replicate k 1 ++ drop k (b .sizes) → length sizes ≡ length (b .sizes)
-    → Looping limit k ws (length ws / 8) 0 s t (withSizes b sizes) (withSizes b sizes)
-begins limit k ws b sizes s t ok started sums filled long = record {
+    → Looping limit k ws (length ws / 8) 0 o s t (withSizes b sizes) (withSizes b sizes)
+unfolding start
+begins limit k ws b sizes o s t ok numbered started sums filled long = record {
   ok = record {
     initial-small = ok .initial-small;
     whole = ok .whole;
@@ -511,28 +534,29 @@ begins limit k ws b sizes s t ok started sums filled long = record {
   w = start k;
   at = subst (λ (a : Tally). Reached limit k (instructionsOf ws) 0 (start k) s a (withSizes b sizes)) (sym sums)
       (reached-start limit k (instructionsOf ws) s (withSizes b sizes) (b .sizes) started filled);
+  ordered = ordered-start k o numbered;
 }
 
-module _ {limit k : ℕ} {ws : List ℕ} {n i : ℕ} {s : State} {t : Tally} {b c : Buffers} (lo : Looping limit k ws n i s t b c) (all : n ≤ i) where
+module _ {limit k : ℕ} {ws : List ℕ} {n i : ℕ} {o : List ℕ} {s : State} {t : Tally} {b c : Buffers} (lo : Looping limit k ws n i o s t b c) (all : n ≤ i) where
   at-end : i ≡ length ws / 8
   at-end = let e = lo .count in let f = lo .upto in omega arith
 
   pub count-small : s .count ≤ 512
-  count-small = E.count-small limit k ws b (lo .ok) i at-end (lo .w) s t c (lo .at) (lo .long)
+  count-small = E.count-small limit k ws b (lo .ok) i at-end (lo .w) s t c (lo .at) (lo .long) o (lo .ordered)
 
   pub groups-fit : CountsFit (take (s .count) (s .size)) (c .groups)
-  groups-fit = E.groups-here limit k ws b (lo .ok) i at-end (lo .w) s t c (lo .at) (lo .long) .fit
+  groups-fit = E.groups-here limit k ws b (lo .ok) i at-end (lo .w) s t c (lo .at) (lo .long) o (lo .ordered) .fit
 
   pub places-fit : (first groups' : List ℕ) → first ≡ countsOf (take (s .count) (s .size)) (c .groups) .start → groups' ≡ countsOf (take (s .count) (s .size)) (c .groups) .groups
       → PlacesFit first (s .component) (s .place) (s .width) (length groups')
   places-fit first groups' e f =
       subst (λ (l : List ℕ). PlacesFit l (s .component) (s .place) (s .width) (length groups')) (sym e)
       (subst (λ (l : List ℕ). PlacesFit (countsOf (take (s .count) (s .size)) (c .groups) .start) (s .component) (s .place) (s .width) (length l)) (sym f)
-      (E.groups-here limit k ws b (lo .ok) i at-end (lo .w) s t c (lo .at) (lo .long) .inside))
+      (E.groups-here limit k ws b (lo .ok) i at-end (lo .w) s t c (lo .at) (lo .long) o (lo .ordered) .inside))
 
   pub finishes : (used : ℕ) (first counts groups' : List ℕ) → used ≡ countsOf (take (s .count) (s .size)) (c .groups) .used
       → first ≡ countsOf (take (s .count) (s .size)) (c .groups) .start → counts ≡ countsOf (take (s .count) (s .size)) (c .groups) .groups
-      → groups' ≡ placedUpTo first (s .coordinate) (s .component) (s .place) (s .width) counts
+      → groups' ≡ placedUpTo first o (s .component) (s .place) (s .width) counts
       → WalkEnds (walkFrom limit 0 (start k) (instructionsOf ws)) (W.Finished (record { tally = t; count = s .count; groups = used }))
       (record {
         steps = c .steps;
@@ -544,5 +568,5 @@ module _ {limit k : ℕ} {ws : List ℕ} {n i : ℕ} {s : State} {t : Tally} {b 
         groups = groups';
       })
   finishes used first counts groups' u e f g =
-      E.ends limit k ws b (lo .ok) i at-end (lo .w) s t c (lo .at) (lo .long) used groups' u
-      (g ∙ ap₂ (λ (a d : List ℕ). placedUpTo a (s .coordinate) (s .component) (s .place) (s .width) d) e f)
+      E.ends limit k ws b (lo .ok) i at-end (lo .w) s t c (lo .at) (lo .long) o (lo .ordered) used groups' u
+      (g ∙ ap₂ (λ (a d : List ℕ). placedUpTo a o (s .component) (s .place) (s .width) d) e f)

@@ -1,4 +1,5 @@
-// The walk over the records. The state is a local of the walk's loop, and is moved by nothing but its own steps.
+// The walk over the records. The state is a local of the walk's loop, and is moved by nothing but its own steps; the active
+// order stands beside it and is changed in place.
 ghost use Rattle.records.specs.Record.{instructionsOf};
 ghost use Rattle.definition.specs.Walk.{start, walkFrom};
 ghost use Rattle.walk.specs.Walking.{Walkable, WalkEnds};
@@ -9,6 +10,9 @@ use outputs::rows::put_step;
 use records::Instruction;
 use records::read;
 use state::State;
+use state::append;
+use state::close_gap;
+use state::first_order;
 use tally::Tally;
 use turns::measure;
 use turns::open;
@@ -44,6 +48,7 @@ pub fn walk(
     requires { ⌜ Walkable «initial_k» (now records) (record { steps = now steps; merges = now merges; sizes = now sizes; rotations = now rotations; promotions = now promotions; measurements = now measurements; groups = now groups }) ⌝ }
     ensures { λ r. ⌜ WalkEnds (walkFrom limit 0 (start «initial_k») (instructionsOf (now (records .entry)))) r (record { steps = now (steps .exit); merges = now (merges .exit); sizes = now (sizes .exit); rotations = now (rotations .exit); promotions = now (promotions .exit); measurements = now (measurements .exit); groups = now (groups .exit) }) ⌝ }
 {
+    let mut order = first_order(initial_k);
     let mut state = State::start(initial_k);
     let mut tally = Tally::start(initial_k as u64);
     fill_ones(sizes, initial_k);
@@ -121,6 +126,8 @@ pub fn walk(
             Instruction::Promotion => {
                 let next = state.count;
                 tally = promote(next, width, index, tally, steps, sizes, promotions);
+                let end = state.width;
+                append(&mut order, end, next);
                 state = state.promote();
             }
             Instruction::Measurement {
@@ -157,6 +164,8 @@ pub fn walk(
                 tally = next;
                 let at = pivot as usize;
                 state = state.remove(at);
+                let last = state.width;
+                close_gap(&mut order, at, last);
             }
             _ => put_step(steps, index, 0, 0),
         }
@@ -166,14 +175,7 @@ pub fn walk(
     let starts = write_counts(&state.size, count, groups);
     let used = starts.used;
     let start = starts.start;
-    write_members(
-        start,
-        &state.coordinate,
-        &state.component,
-        &state.place,
-        width,
-        groups,
-    );
+    write_members(start, &order, &state.component, &state.place, width, groups);
     Walked::Finished(Summary {
         tally,
         count,

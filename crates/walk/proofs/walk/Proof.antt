@@ -12,22 +12,22 @@ use Rattle.records.specs.declared.Instruction.the-variants.{DormantBranch}
 use Rattle.records.proofs.Laws.{instruction-at}
 use Rattle.state.specs.Steps.{Joined}
 use Rattle.turns.specs.Turns.{numberBefore}
-use Rattle.walk.proofs.Looping.{Looping, Met, sources, records-few, join-count, opening, opening-stops, joins, part-fits, part-is, ignored-goes, rotate-asks, rotate-room, rotate-stops, rotate-goes, measure-asks, measure-room, measure-stops, remove-asks, measure-goes, promote-asks, promoted-asks, promote-goes, does-nothing, plain-goes, step-room, quantum-room, ones-fit, begins, count-small, groups-fit, places-fit, finishes}
+use Rattle.walk.proofs.Looping.{Looping, Met, sources, records-few, join-count, opening, opening-stops, joins, part-fits, part-is, ignored-goes, rotate-asks, rotate-room, rotate-stops, rotate-goes, measure-asks, measure-room, measure-stops, remove-asks, gap-fits, measure-goes, promote-asks, promoted-asks, promote-goes, does-nothing, plain-goes, step-room, quantum-room, ones-fit, begins, count-small, groups-fit, places-fit, finishes}
 use Rattle.walk.proofs.walk.Statement.{statement}
 use Rattle.walk.proofs.walk.Tie as tie
 
 abbrev Inv-loop : tie.InvT-loop
-Inv-loop limit initial-k records steps₀ merges₀ sizes₀ rotations₀ promotions₀ measurements₀ groups state₀ tally₀ n i₀ steps merges sizes rotations promotions measurements state tally i =
-    Looping limit initial-k records n i state tally (record { steps = steps₀; merges = merges₀; sizes = sizes₀; rotations = rotations₀; promotions = promotions₀; measurements = measurements₀; groups = groups }) (record { steps = steps; merges = merges; sizes = sizes; rotations = rotations; promotions = promotions; measurements = measurements; groups = groups })
+Inv-loop limit initial-k records steps₀ merges₀ sizes₀ rotations₀ promotions₀ measurements₀ groups order₀ state₀ tally₀ n i₀ steps merges sizes rotations promotions measurements order state tally i =
+    Looping limit initial-k records n i order state tally (record { steps = steps₀; merges = merges₀; sizes = sizes₀; rotations = rotations₀; promotions = promotions₀; measurements = measurements₀; groups = groups }) (record { steps = steps; merges = merges; sizes = sizes; rotations = rotations; promotions = promotions; measurements = measurements; groups = groups })
 
 abbrev μ-loop : tie.MeasureT-loop
-μ-loop limit initial-k records steps₀ merges₀ sizes₀ rotations₀ promotions₀ measurements₀ groups state₀ tally₀ n i₀ steps merges sizes rotations promotions measurements state tally i =
+μ-loop limit initial-k records steps₀ merges₀ sizes₀ rotations₀ promotions₀ measurements₀ groups order₀ state₀ tally₀ n i₀ steps merges sizes rotations promotions measurements order state tally i =
     n - i
 
 -- the record that a turn reads
-turn-now : (c : tie.After-read Inv-loop μ-loop) → getD (instructionsOf (c .before .before .before .before .before .before .before .before .before .before .before .before .before .before .before .before .before .args .records .now)) (c .before .before .loop .i) DormantBranch ≡ c .read .result
+turn-now : (c : tie.After-read Inv-loop μ-loop) → getD (instructionsOf (c .before .before .before .before .before .before .before .before .before .before .before .before .before .before .before .before .before .before .args .records .now)) (c .before .before .loop .i) DormantBranch ≡ c .read .result
 turn-now c =
-    let words = c .before .before .before .before .before .before .before .before .before .before .before .before .before .before .before .before .before .args .records .now in
+    let words = c .before .before .before .before .before .before .before .before .before .before .before .before .before .before .before .before .before .before .args .records .now in
     instruction-at words (c .before .before .loop .i) DormantBranch (omega (arith, c .before .loop-test .taken, c .before .before .loop .inv .count)) ∙ sym (c .read .ensures)
 
 -- how many sources it has
@@ -75,6 +75,9 @@ let-through : (c : tie.Else1 Inv-loop μ-loop)
     numberBefore (read .before .before .loop .state .width) (read .read .result) ≡ 0
 let-through c = sym (c .before .before .before .«open» .ensures .0) ∙ c .if1 .left
 
+first-order-requires : tie.Need-first-order-requires Inv-loop μ-loop
+first-order-requires c κs = search needs
+
 start-requires : tie.Need-start-requires Inv-loop μ-loop
 start-requires c κs = search needs
 
@@ -82,12 +85,12 @@ start-requires-2 : tie.Need-start-requires-2 Inv-loop μ-loop
 start-requires-2 c κs = search needs
 
 fill-ones-requires : tie.Need-fill-ones-requires Inv-loop μ-loop
-fill-ones-requires c κs = ones-fit (c .before .before .before .before .before .before .before .before .before .before .before .pre)
+fill-ones-requires c κs = ones-fit (c .before .before .before .before .before .before .before .before .before .before .before .before .pre)
 
 loop-holds : tie.Need-loop-holds Inv-loop μ-loop
 loop-holds c =
-    let first = c .before .before .before .before .before .before .before .before .before .before .before .before .before .before in
-    begins (first .args .limit) (first .args .initial-k) (first .args .records .now) _ (c .before .before .fill-ones .last .0) (c .before .before .before .before .before .start .result) (c .before .before .before .before .start2 .result) (first .pre) (c .before .before .before .before .before .start .ensures) (c .before .before .before .before .start2 .ensures) (c .before .before .fill-ones .ensures) (c .before .before .fill-ones .kept .0)
+    let first = c .before .before .before .before .before .before .before .before .before .before .before .before .before .before .before in
+    begins (first .args .limit) (first .args .initial-k) (first .args .records .now) _ (c .before .before .fill-ones .last .0) (c .before .before .before .before .before .before .first-order .result) (c .before .before .before .before .before .start .result) (c .before .before .before .before .start2 .result) (first .pre) (c .before .before .before .before .before .before .first-order .ensures) (c .before .before .before .before .before .start .ensures) (c .before .before .before .before .start2 .ensures) (c .before .before .fill-ones .ensures) (c .before .before .fill-ones .kept .0)
 
 add-i : tie.Need-add-i Inv-loop μ-loop
 add-i c = let few = records-few (c .before .loop .inv) in omega (arith, c .loop-test .taken)
@@ -143,7 +146,7 @@ add-end c =
     let fits = placed opened .0 in
     let kept = opened .«open» .kept .1 .1 .1 .1 .1 .0 in
     let long = inv .long .merges in
-    let good = c .before .before .before .before .before .before .before .before .before .before .before .before .before .before .before .before .before .before .before .before .before .before .before .before .before .before .before .good .1 .1 .1 .1 .0 .1 in
+    let good = c .before .before .before .before .before .before .before .before .before .before .before .before .before .before .before .before .before .before .before .before .before .before .before .before .before .before .before .before .good .1 .1 .1 .1 .0 .1 in
     omega (arith, good)
 
 mul-join : tie.Need-mul-join Inv-loop μ-loop
@@ -157,7 +160,7 @@ mul-join c =
     let fits = placed opened .0 in
     let kept = opened .«open» .kept .1 .1 .1 .1 .1 .0 in
     let long = inv .long .merges in
-    let good = c .before .before .before .before .before .before .before .before .before .before .before .before .before .before .before .before .before .before .before .before .before .before .before .before .before .before .before .good .1 .1 .1 .1 .0 .1 in
+    let good = c .before .before .before .before .before .before .before .before .before .before .before .before .before .before .before .before .before .before .before .before .before .before .before .before .before .before .before .before .good .1 .1 .1 .1 .0 .1 in
     omega (arith, good)
 
 sub-join : tie.Need-sub-join Inv-loop μ-loop
@@ -177,7 +180,7 @@ part-join-end c =
     let fits = placed opened .0 in
     let kept = opened .«open» .kept .1 .1 .1 .1 .1 .0 in
     let long = inv .long .merges in
-    let good = c .before .before .before .before .before .before .before .before .before .before .before .before .before .before .before .before .before .before .before .before .before .before .before .before .before .before .before .before .good .1 .1 .1 .1 .0 .1 in
+    let good = c .before .before .before .before .before .before .before .before .before .before .before .before .before .before .before .before .before .before .before .before .before .before .before .before .before .before .before .before .before .good .1 .1 .1 .1 .0 .1 in
     fits
 
 join-requires : tie.Need-join-requires Inv-loop μ-loop
@@ -362,37 +365,48 @@ promote-requires c κs =
     let told = c .before .before .before .enum-told .given .1 in
     promote-asks inv more x now told (j2 .if2 .state) (met j2)
 
-promote-requires-2 : tie.Need-promote-requires-2 Inv-loop μ-loop
-promote-requires-2 c κs =
-    let read = c .before .before .before .before .before .before .before .before .before .before .before .before .before .before .before .before .before .before .before .before .before .before in
-    let inv = read .before .before .loop .inv in
-    let more = read .before .loop-test .taken in
-    let x = read .read .result in
-    let now = turn-now read in
-    let j2 = c .before .before .before .before .before .before .before .before .before .before .before .before in
-    let opened = c .before .before .before .before .before .before .before .before .before .before .before .before .before .before .before .before .before in
-    let through = let-through (c .before .before .before .before .before .before .before .before .before .before .before .before .before .before) in
-    let told = c .before .before .before .before .before .before .before .before .before .before .enum-told .given .1 in
-    promoted-asks inv more x now told (j2 .if2 .state) (met j2)
-
-loop-less-3 : tie.Need-loop-less-3 Inv-loop μ-loop
-loop-less-3 c =
-    let more = c .before .before .before .before .before .before .before .before .before .before .before .before .before .before .before .before .before .before .before .before .before .before .before .before .loop-test .taken in
-    omega arith
-
-loop-again-3 : tie.Need-loop-again-3 Inv-loop μ-loop
-loop-again-3 c =
+append-requires : tie.Need-append-requires Inv-loop μ-loop
+append-requires c κs =
     let read = c .before .before .before .before .before .before .before .before .before .before .before .before .before .before .before .before .before .before .before .before .before .before .before in
     let inv = read .before .before .loop .inv in
     let more = read .before .loop-test .taken in
     let x = read .read .result in
     let now = turn-now read in
     let j2 = c .before .before .before .before .before .before .before .before .before .before .before .before .before in
-    let opened = c .before .before .before .before .before .before .before .before .before .before .before .before .before .before .before .before .before .before in
-    let through = let-through (c .before .before .before .before .before .before .before .before .before .before .before .before .before .before .before) in
     let told = c .before .before .before .before .before .before .before .before .before .before .before .enum-told .given .1 in
-    let done = c .before .before .before .before .before .before .before in
-    promote-goes inv more x now told (j2 .if2 .state) (met j2) (done .promote .result) _ (c .promote2 .result) (done .promote .ensures) (c .promote2 .ensures) (opened .«open» .ensures .2) refl refl (record { steps = done .promote .kept .1 .1 .1 .1 .0 ∙ inv .long .steps; merges = opened .«open» .kept .1 .1 .1 .1 .1 .0 ∙ inv .long .merges; sizes = done .promote .kept .1 .1 .1 .1 .1 .0 ∙ inv .long .sizes; rotations = inv .long .rotations; promotions = done .promote .kept .1 .1 .1 .1 .1 .1 .0 ∙ inv .long .promotions; measurements = inv .long .measurements; groups = inv .long .groups })
+    promoted-asks inv more x now told (j2 .if2 .state) (met j2)
+
+promote-requires-2 : tie.Need-promote-requires-2 Inv-loop μ-loop
+promote-requires-2 c κs =
+    let read = c .before .before .before .before .before .before .before .before .before .before .before .before .before .before .before .before .before .before .before .before .before .before .before .before in
+    let inv = read .before .before .loop .inv in
+    let more = read .before .loop-test .taken in
+    let x = read .read .result in
+    let now = turn-now read in
+    let j2 = c .before .before .before .before .before .before .before .before .before .before .before .before .before .before in
+    let opened = c .before .before .before .before .before .before .before .before .before .before .before .before .before .before .before .before .before .before .before in
+    let through = let-through (c .before .before .before .before .before .before .before .before .before .before .before .before .before .before .before .before) in
+    let told = c .before .before .before .before .before .before .before .before .before .before .before .before .enum-told .given .1 in
+    promoted-asks inv more x now told (j2 .if2 .state) (met j2)
+
+loop-less-3 : tie.Need-loop-less-3 Inv-loop μ-loop
+loop-less-3 c =
+    let more = c .before .before .before .before .before .before .before .before .before .before .before .before .before .before .before .before .before .before .before .before .before .before .before .before .before .before .loop-test .taken in
+    omega arith
+
+loop-again-3 : tie.Need-loop-again-3 Inv-loop μ-loop
+loop-again-3 c =
+    let read = c .before .before .before .before .before .before .before .before .before .before .before .before .before .before .before .before .before .before .before .before .before .before .before .before .before in
+    let inv = read .before .before .loop .inv in
+    let more = read .before .loop-test .taken in
+    let x = read .read .result in
+    let now = turn-now read in
+    let j2 = c .before .before .before .before .before .before .before .before .before .before .before .before .before .before .before in
+    let opened = c .before .before .before .before .before .before .before .before .before .before .before .before .before .before .before .before .before .before .before .before in
+    let through = let-through (c .before .before .before .before .before .before .before .before .before .before .before .before .before .before .before .before .before) in
+    let told = c .before .before .before .before .before .before .before .before .before .before .before .before .before .enum-told .given .1 in
+    let done = c .before .before .before .before .before .before .before .before .before in
+    promote-goes inv more x now told (j2 .if2 .state) (met j2) (done .promote .result) _ (c .promote2 .result) (c .before .append .last .0) (done .promote .ensures) (c .promote2 .ensures) (c .before .append .ensures) (opened .«open» .ensures .2) refl refl (record { steps = done .promote .kept .1 .1 .1 .1 .0 ∙ inv .long .steps; merges = opened .«open» .kept .1 .1 .1 .1 .1 .0 ∙ inv .long .merges; sizes = done .promote .kept .1 .1 .1 .1 .1 .0 ∙ inv .long .sizes; rotations = inv .long .rotations; promotions = done .promote .kept .1 .1 .1 .1 .1 .1 .0 ∙ inv .long .promotions; measurements = inv .long .measurements; groups = inv .long .groups })
 
 enum-known-instruction-2 : tie.Need-enum-known-instruction-2 Inv-loop μ-loop
 enum-known-instruction-2 c = search needs
@@ -504,24 +518,39 @@ remove-requires c κs =
     let done = c .before .before .before .before .before .before .before .before in
     remove-asks inv more x now _ _ _ _ _ told through (j2 .if2 .state) (met j2) (opened .«open» .result .join) (opened .«open» .ensures .1) (done .measure .result .number) _ (done .measure .ensures) (c .before .if5 .left)
 
-loop-less-4 : tie.Need-loop-less-4 Inv-loop μ-loop
-loop-less-4 c =
-    let more = c .before .before .before .before .before .before .before .before .before .before .before .before .before .before .before .before .before .before .before .before .before .before .before .before .before .before .before .before .before .before .loop-test .taken in
-    omega arith
-
-loop-again-4 : tie.Need-loop-again-4 Inv-loop μ-loop
-loop-again-4 c =
-    let read = c .before .before .before .before .before .before .before .before .before .before .before .before .before .before .before .before .before .before .before .before .before .before .before .before .before .before .before .before .before in
+close-gap-requires : tie.Need-close-gap-requires Inv-loop μ-loop
+close-gap-requires c κs =
+    let read = c .before .before .before .before .before .before .before .before .before .before .before .before .before .before .before .before .before .before .before .before .before .before .before .before .before .before .before .before .before .before in
     let inv = read .before .before .loop .inv in
     let more = read .before .loop-test .taken in
     let x = read .read .result in
     let now = turn-now read in
-    let j2 = c .before .before .before .before .before .before .before .before .before .before .before .before .before .before .before .before .before .before .before in
-    let opened = c .before .before .before .before .before .before .before .before .before .before .before .before .before .before .before .before .before .before .before .before .before .before .before .before in
-    let through = let-through (c .before .before .before .before .before .before .before .before .before .before .before .before .before .before .before .before .before .before .before .before .before) in
-    let told = c .before .before .before .before .before .before .before .before .before .before .before .before .before .before .before .before .before .instruction2 .given .1 in
-    let done = c .before .before .before .before .before .before .before .before .before in
-    measure-goes inv more x now _ _ _ _ _ told through (j2 .if2 .state) (met j2) (opened .«open» .result .join) (opened .«open» .ensures .1) (done .measure .result .number) (done .measure .result .tally) _ (c .remove .result) (done .measure .ensures) (c .before .before .if5 .left) (c .remove .ensures) (opened .«open» .ensures .2) refl refl (record { steps = done .measure .kept .1 .1 .1 .1 .1 .1 .1 .1 .1 .1 .1 .0 ∙ inv .long .steps; merges = opened .«open» .kept .1 .1 .1 .1 .1 .0 ∙ inv .long .merges; sizes = done .measure .kept .1 .1 .1 .1 .1 .1 .1 .1 .1 .1 .1 .1 .0 ∙ inv .long .sizes; rotations = inv .long .rotations; promotions = inv .long .promotions; measurements = done .measure .kept .1 .1 .1 .1 .1 .1 .1 .1 .1 .1 .1 .1 .1 .0 ∙ inv .long .measurements; groups = inv .long .groups })
+    let j2 = c .before .before .before .before .before .before .before .before .before .before .before .before .before .before .before .before .before .before .before .before in
+    let opened = c .before .before .before .before .before .before .before .before .before .before .before .before .before .before .before .before .before .before .before .before .before .before .before .before .before in
+    let through = let-through (c .before .before .before .before .before .before .before .before .before .before .before .before .before .before .before .before .before .before .before .before .before .before) in
+    let told = c .before .before .before .before .before .before .before .before .before .before .before .before .before .before .before .before .before .before .instruction2 .given .1 in
+    let done = c .before .before .before .before .before .before .before .before .before .before in
+    gap-fits inv more x now _ _ _ _ _ told through (j2 .if2 .state) (met j2) (opened .«open» .result .join) (opened .«open» .ensures .1) (c .before .remove .result) (c .before .remove .ensures)
+    (remove-asks inv more x now _ _ _ _ _ told through (j2 .if2 .state) (met j2) (opened .«open» .result .join) (opened .«open» .ensures .1) (done .measure .result .number) _ (done .measure .ensures) (c .before .before .before .if5 .left))
+
+loop-less-4 : tie.Need-loop-less-4 Inv-loop μ-loop
+loop-less-4 c =
+    let more = c .before .before .before .before .before .before .before .before .before .before .before .before .before .before .before .before .before .before .before .before .before .before .before .before .before .before .before .before .before .before .before .before .loop-test .taken in
+    omega arith
+
+loop-again-4 : tie.Need-loop-again-4 Inv-loop μ-loop
+loop-again-4 c =
+    let read = c .before .before .before .before .before .before .before .before .before .before .before .before .before .before .before .before .before .before .before .before .before .before .before .before .before .before .before .before .before .before .before in
+    let inv = read .before .before .loop .inv in
+    let more = read .before .loop-test .taken in
+    let x = read .read .result in
+    let now = turn-now read in
+    let j2 = c .before .before .before .before .before .before .before .before .before .before .before .before .before .before .before .before .before .before .before .before .before in
+    let opened = c .before .before .before .before .before .before .before .before .before .before .before .before .before .before .before .before .before .before .before .before .before .before .before .before .before .before in
+    let through = let-through (c .before .before .before .before .before .before .before .before .before .before .before .before .before .before .before .before .before .before .before .before .before .before .before) in
+    let told = c .before .before .before .before .before .before .before .before .before .before .before .before .before .before .before .before .before .before .before .instruction2 .given .1 in
+    let done = c .before .before .before .before .before .before .before .before .before .before .before in
+    measure-goes inv more x now _ _ _ _ _ told through (j2 .if2 .state) (met j2) (opened .«open» .result .join) (opened .«open» .ensures .1) (done .measure .result .number) (done .measure .result .tally) _ (c .before .before .remove .result) (c .close-gap .last .0) (done .measure .ensures) (c .before .before .before .before .if5 .left) (c .before .before .remove .ensures) (c .close-gap .ensures) (opened .«open» .ensures .2) refl refl (record { steps = done .measure .kept .1 .1 .1 .1 .1 .1 .1 .1 .1 .1 .1 .0 ∙ inv .long .steps; merges = opened .«open» .kept .1 .1 .1 .1 .1 .0 ∙ inv .long .merges; sizes = done .measure .kept .1 .1 .1 .1 .1 .1 .1 .1 .1 .1 .1 .1 .0 ∙ inv .long .sizes; rotations = inv .long .rotations; promotions = inv .long .promotions; measurements = done .measure .kept .1 .1 .1 .1 .1 .1 .1 .1 .1 .1 .1 .1 .1 .0 ∙ inv .long .measurements; groups = inv .long .groups })
 
 put-step-requires-2 : tie.Need-put-step-requires-2 Inv-loop μ-loop
 put-step-requires-2 c κs =
@@ -596,6 +625,7 @@ walk-spec =
     (tie.spec
     Inv-loop
     μ-loop
+    first-order-requires
     start-requires
     start-requires-2
     fill-ones-requires
@@ -633,6 +663,7 @@ walk-spec =
     loop-again-2
     enum-told
     promote-requires
+    append-requires
     promote-requires-2
     loop-less-3
     loop-again-3
@@ -646,6 +677,7 @@ walk-spec =
     same-length-18
     returns-3
     remove-requires
+    close-gap-requires
     loop-less-4
     loop-again-4
     put-step-requires-2

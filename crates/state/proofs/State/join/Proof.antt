@@ -35,7 +35,6 @@ loop-holds c =
       search needs,
       start .pre .narrow,
       record {
-        coordinate = refl;
         size = refl;
         width = refl;
         count = refl;
@@ -117,7 +116,6 @@ returns c =
     let first = start .args .t1 in
     let sources = now (start .args .sources) in
     record {
-      coordinate = turn .inv .2 .coordinate;
       component = λ p h. turn .inv .2 .component p (omega arith)
           ∙ ap (λ (l : List ℕ). moved l (targetOf sources) (getD (first .component) p 0)) (call .gather-sizes .ensures .0);
       place = λ p h. turn .inv .2 .place p (omega arith)
@@ -126,7 +124,6 @@ returns c =
       width = turn .inv .2 .width;
       count = turn .inv .2 .count;
       shape = record {
-        coordinates = ap length (turn .inv .2 .coordinate) ∙ start .pre .shape .coordinates;
         components = turn .inv .2 .components;
         places = turn .inv .2 .places;
         sizes = ap length (turn .inv .2 .size ∙ call .gather-sizes .ensures .1) ∙ length-after (first .size) sources ∙ start .pre .shape .sizes;

@@ -14,20 +14,11 @@ mul-self c = search needs
 element-write-self : tie.Need-element-write-self
 element-write-self c = search needs
 
-cast-self-2 : tie.Need-cast-self-2
-cast-self-2 c = search needs
-
-mul-self-2 : tie.Need-mul-self-2
-mul-self-2 c = search needs
-
 element-write-self-2 : tie.Need-element-write-self-2
 element-write-self-2 c = search needs
 
 element-write-self-3 : tie.Need-element-write-self-3
 element-write-self-3 c = search needs
-
-element-write-self-4 : tie.Need-element-write-self-4
-element-write-self-4 c = search needs
 
 add-self : tie.Need-add-self
 add-self c = search needs
@@ -46,11 +37,8 @@ promote-spec =
     cast-self
     mul-self
     element-write-self
-    cast-self-2
-    mul-self-2
     element-write-self-2
     element-write-self-3
-    element-write-self-4
     add-self
     add-self-2
     returns)

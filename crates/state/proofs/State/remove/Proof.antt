@@ -17,11 +17,9 @@ use Rattle.state.proofs.State.remove.Tie as tie
 abbrev Inv-loop : tie.InvT-loop
 Inv-loop pivot self₀ target local last p₀ self p =
     (p ≤ last) × (self .width ≡ self₀ .width) × (self .count ≡ self₀ .count) × (self .size ≡ self₀ .size)
-    × (length (self .coordinate) ≡ 512) × (length (self .component) ≡ 512) × (length (self .place) ≡ 512)
-    × ((q : ℕ) → q < p → getD (self .coordinate) q 0 ≡ getD (self₀ .coordinate) (skip pivot q) 0)
+    × (length (self .component) ≡ 512) × (length (self .place) ≡ 512)
     × ((q : ℕ) → q < p → getD (self .component) q 0 ≡ getD (self₀ .component) (skip pivot q) 0)
     × ((q : ℕ) → q < p → getD (self .place) q 0 ≡ lowered target local (getD (self₀ .component) (skip pivot q) 0) (getD (self₀ .place) (skip pivot q) 0))
-    × ((q : ℕ) → p ≤ q → getD (self .coordinate) q 0 ≡ getD (self₀ .coordinate) q 0)
     × ((q : ℕ) → p ≤ q → getD (self .component) q 0 ≡ getD (self₀ .component) q 0)
     × ((q : ℕ) → p ≤ q → getD (self .place) q 0 ≡ getD (self₀ .place) q 0)
     × Below512 (self .component)
@@ -50,11 +48,8 @@ loop-holds c =
       refl,
       search needs,
       search needs,
-      search needs,
       below-none _,
       below-none _,
-      below-none _,
-      λ q h. refl,
       λ q h. refl,
       λ q h. refl,
       before .pre .shape .small,
@@ -80,28 +75,16 @@ element-copy-out-place : tie.Need-element-copy-out-place Inv-loop μ-loop
 element-copy-out-place c = near (c .before) .1
 
 mul-self : tie.Need-mul-self Inv-loop μ-loop
-mul-self c = omega (arith, near (c .before .before) .1)
-
-element-copy-out-self : tie.Need-element-copy-out-self Inv-loop μ-loop
-element-copy-out-self c = near (c .before .before) .1
-
-mul-self-2 : tie.Need-mul-self-2 Inv-loop μ-loop
-mul-self-2 c = search needs
+mul-self c = search needs
 
 element-write-self : tie.Need-element-write-self Inv-loop μ-loop
 element-write-self c = search needs
 
-mul-self-3 : tie.Need-mul-self-3 Inv-loop μ-loop
-mul-self-3 c = search needs
-
-element-write-self-2 : tie.Need-element-write-self-2 Inv-loop μ-loop
-element-write-self-2 c = search needs
-
 lower-requires : tie.Need-lower-requires Inv-loop μ-loop
 lower-requires c κs = search needs
 
-element-write-self-3 : tie.Need-element-write-self-3 Inv-loop μ-loop
-element-write-self-3 c = search needs
+element-write-self-2 : tie.Need-element-write-self-2 Inv-loop μ-loop
+element-write-self-2 c = search needs
 
 add-p : tie.Need-add-p Inv-loop μ-loop
 add-p c = search needs
@@ -111,16 +94,15 @@ loop-less c = search needs
 
 loop-again : tie.Need-loop-again Inv-loop μ-loop
 loop-again c =
-    let turn = c .before .before .before .before .before .before .loop in
-    let start = c .before .before .before .before .before .before .before .before .before in
+    let turn = c .before .before .before .before .before .loop in
+    let start = c .before .before .before .before .before .before .before .before in
     let first = start .args .t1 in
     let pivot = start .args .pivot in
-    let at = c .before .before .before .before in
+    let at = c .before .before .before in
     let q = at .skip .result in
     let s = turn .self in
-    let coordinate = turn .inv .10 q (near at .0) ∙ ap (λ (k : ℕ). getD (first .coordinate) k 0) (at .skip .ensures) in
-    let component = turn .inv .11 q (near at .0) ∙ ap (λ (k : ℕ). getD (first .component) k 0) (at .skip .ensures) in
-    let place = turn .inv .12 q (near at .0) ∙ ap (λ (k : ℕ). getD (first .place) k 0) (at .skip .ensures) in
+    let component = turn .inv .8 q (near at .0) ∙ ap (λ (k : ℕ). getD (first .component) k 0) (at .skip .ensures) in
+    let place = turn .inv .9 q (near at .0) ∙ ap (λ (k : ℕ). getD (first .place) k 0) (at .skip .ensures) in
     let target = getD (first .component) pivot 0 in
     let local = getD (first .place) pivot 0 in (
       omega arith,
@@ -129,25 +111,22 @@ loop-again c =
       turn .inv .3,
       simp length-set (turn .inv .4),
       simp length-set (turn .inv .5),
-      simp length-set (turn .inv .6),
-      store-below (λ (k x : ℕ). x ≡ getD (first .coordinate) (skip pivot k) 0) (s .coordinate) (turn .p) _ (omega arith) (turn .inv .7) coordinate,
-      store-below (λ (k x : ℕ). x ≡ getD (first .component) (skip pivot k) 0) (s .component) (turn .p) _ (omega arith) (turn .inv .8) component,
+      store-below (λ (k x : ℕ). x ≡ getD (first .component) (skip pivot k) 0) (s .component) (turn .p) _ (omega arith) (turn .inv .6) component,
       store-below
           (λ (k x : ℕ). x ≡ lowered target local (getD (first .component) (skip pivot k) 0) (getD (first .place) (skip pivot k) 0))
-          (s .place) (turn .p) _ (omega arith) (turn .inv .9)
+          (s .place) (turn .p) _ (omega arith) (turn .inv .7)
           (c .lower .ensures ∙ ap (λ (k : ℕ). lowered target local k (getD (s .place) q 0)) component
           ∙ ap (λ (k : ℕ). lowered target local (getD (first .component) (skip pivot (turn .p)) 0) k) place),
-      store-above (λ (k x : ℕ). x ≡ getD (first .coordinate) k 0) (s .coordinate) (turn .p) _ (turn .inv .10),
-      store-above (λ (k x : ℕ). x ≡ getD (first .component) k 0) (s .component) (turn .p) _ (turn .inv .11),
-      store-above (λ (k x : ℕ). x ≡ getD (first .place) k 0) (s .place) (turn .p) _ (turn .inv .12),
-      store-all (s .component) (turn .p) _ (omega arith) (turn .inv .13) (turn .inv .13 q),
+      store-above (λ (k x : ℕ). x ≡ getD (first .component) k 0) (s .component) (turn .p) _ (turn .inv .8),
+      store-above (λ (k x : ℕ). x ≡ getD (first .place) k 0) (s .place) (turn .p) _ (turn .inv .9),
+      store-all (s .component) (turn .p) _ (omega arith) (turn .inv .10) (turn .inv .10 q),
     )
 
 cast-at : tie.Need-cast-at Inv-loop μ-loop
 cast-at c = omega (arith, c .before .before .before .before .pre .shape .small (c .before .before .before .before .args .pivot))
 
-element-copy-out-self-2 : tie.Need-element-copy-out-self-2 Inv-loop μ-loop
-element-copy-out-self-2 c = c .before .before .before .before .pre .shape .small (c .before .before .before .before .args .pivot)
+element-copy-out-self : tie.Need-element-copy-out-self Inv-loop μ-loop
+element-copy-out-self c = c .before .before .before .before .pre .shape .small (c .before .before .before .before .args .pivot)
 
 sub-self : tie.Need-sub-self Inv-loop μ-loop
 sub-self c =
@@ -155,8 +134,8 @@ sub-self c =
     let first = start .args .t1 in
     omega (arith, start .pre .member, ap (λ (l : List ℕ). getD l (getD (first .component) (start .args .pivot) 0) 0) (c .before .before .loop .inv .3))
 
-element-write-self-4 : tie.Need-element-write-self-4 Inv-loop μ-loop
-element-write-self-4 c = c .before .before .before .before .before .pre .shape .small (c .before .before .before .before .before .args .pivot)
+element-write-self-3 : tie.Need-element-write-self-3 Inv-loop μ-loop
+element-write-self-3 c = c .before .before .before .before .before .pre .shape .small (c .before .before .before .before .before .args .pivot)
 
 returns : tie.Need-returns Inv-loop μ-loop
 returns c =
@@ -164,18 +143,16 @@ returns c =
     let start = c .before .before .before .before .before in
     let target = getD (start .args .t1 .component) (start .args .pivot) 0 in
     record {
-      coordinate = λ p h. turn .inv .7 p (omega arith);
-      component = λ p h. turn .inv .8 p (omega arith);
-      place = λ p h. turn .inv .9 p (omega arith);
+      component = λ p h. turn .inv .6 p (omega arith);
+      place = λ p h. turn .inv .7 p (omega arith);
       size = ap (λ (l : List ℕ). set l target (getD l target 0 - 1)) (turn .inv .3);
       width = refl;
       count = turn .inv .2;
       shape = record {
-        coordinates = turn .inv .4;
-        components = turn .inv .5;
-        places = turn .inv .6;
+        components = turn .inv .4;
+        places = turn .inv .5;
         sizes = simp length-set (ap length (turn .inv .3) ∙ start .pre .shape .sizes);
-        small = turn .inv .13;
+        small = turn .inv .10;
       };
     }
 
@@ -195,18 +172,14 @@ remove-spec =
     element-copy-out-c
     element-copy-out-place
     mul-self
-    element-copy-out-self
-    mul-self-2
     element-write-self
-    mul-self-3
-    element-write-self-2
     lower-requires
-    element-write-self-3
+    element-write-self-2
     add-p
     loop-less
     loop-again
     cast-at
-    element-copy-out-self-2
+    element-copy-out-self
     sub-self
-    element-write-self-4
+    element-write-self-3
     returns)

@@ -14,8 +14,8 @@ use Rattle.state.proofs.State.start.Tie as tie
 abbrev Inv-loop : tie.InvT-loop
 Inv-loop k state₀ i₀ state i =
     (i ≤ k) × (state .width ≡ k) × (state .count ≡ k)
-    × (length (state .coordinate) ≡ 512) × (length (state .component) ≡ 512) × (length (state .size) ≡ 512)
-    × ((p : ℕ) → p < i → getD (state .coordinate) p 0 ≡ p) × ((p : ℕ) → p < i → getD (state .component) p 0 ≡ p)
+    × (length (state .component) ≡ 512) × (length (state .size) ≡ 512)
+    × ((p : ℕ) → p < i → getD (state .component) p 0 ≡ p)
     × ((p : ℕ) → p < i → getD (state .size) p 0 ≡ 1) × ((p : ℕ) → p < 512 → getD (state .place) p 0 ≡ 0) × Below512 (state .component) × (length (state .place) ≡ 512)
 
 abbrev μ-loop : tie.MeasureT-loop
@@ -28,8 +28,6 @@ loop-holds c = (
   search needs,
   search needs,
   search needs,
-  search needs,
-  below-none _,
   below-none _,
   below-none _,
   λ p h. getD-replicate 512 p 0 0 h,
@@ -46,17 +44,8 @@ mul-state c = search needs
 element-write-state : tie.Need-element-write-state Inv-loop μ-loop
 element-write-state c = search needs
 
-cast-state-2 : tie.Need-cast-state-2 Inv-loop μ-loop
-cast-state-2 c = search needs
-
-mul-state-2 : tie.Need-mul-state-2 Inv-loop μ-loop
-mul-state-2 c = search needs
-
 element-write-state-2 : tie.Need-element-write-state-2 Inv-loop μ-loop
 element-write-state-2 c = search needs
-
-element-write-state-3 : tie.Need-element-write-state-3 Inv-loop μ-loop
-element-write-state-3 c = search needs
 
 add-i : tie.Need-add-i Inv-loop μ-loop
 add-i c = search needs
@@ -74,13 +63,11 @@ loop-again c =
       turn .inv .2,
       simp length-set (turn .inv .3),
       simp length-set (turn .inv .4),
-      simp length-set (turn .inv .5),
-      store-below (λ (q x : ℕ). x ≡ q) (state .coordinate) i i (omega arith) (turn .inv .6) refl,
-      store-below (λ (q x : ℕ). x ≡ q) (state .component) i i (omega arith) (turn .inv .7) refl,
-      store-below (λ (q x : ℕ). x ≡ 1) (state .size) i 1 (omega arith) (turn .inv .8) refl,
+      store-below (λ (q x : ℕ). x ≡ q) (state .component) i i (omega arith) (turn .inv .5) refl,
+      store-below (λ (q x : ℕ). x ≡ 1) (state .size) i 1 (omega arith) (turn .inv .6) refl,
+      turn .inv .7,
+      store-all (state .component) i i (omega arith) (turn .inv .8) (omega arith),
       turn .inv .9,
-      store-all (state .component) i i (omega arith) (turn .inv .10) (omega arith),
-      turn .inv .11,
     )
 
 returns : tie.Need-returns Inv-loop μ-loop
@@ -88,13 +75,12 @@ returns c =
     let turn = c .before .loop in
     let all : turn .i ≡ c .before .before .args .k = omega arith in
     record {
-      coordinate = λ p h. turn .inv .6 p (omega arith);
-      component = λ p h. turn .inv .7 p (omega arith);
-      place = λ p h. turn .inv .9 p (omega arith);
-      size = λ p h. turn .inv .8 p (omega arith);
+      component = λ p h. turn .inv .5 p (omega arith);
+      place = λ p h. turn .inv .7 p (omega arith);
+      size = λ p h. turn .inv .6 p (omega arith);
       width = turn .inv .1;
       count = turn .inv .2;
-      shape = record { coordinates = turn .inv .3; components = turn .inv .4; places = turn .inv .11; sizes = turn .inv .5; small = turn .inv .10 };
+      shape = record { components = turn .inv .3; places = turn .inv .9; sizes = turn .inv .4; small = turn .inv .8 };
     }
 
 pub start-spec : {M : Type 1} → statement M
@@ -107,10 +93,7 @@ start-spec =
     cast-state
     mul-state
     element-write-state
-    cast-state-2
-    mul-state-2
     element-write-state-2
-    element-write-state-3
     add-i
     loop-less
     loop-again
