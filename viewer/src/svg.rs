@@ -19,8 +19,9 @@ const RIGHT: f64 = 170.0;
 const LEGEND: f64 = 96.0;
 /// The legend and the heading need as much.
 const LEAST_WIDTH: f64 = 900.0;
-/// The least distance between two numbers on the axis.
+/// The least distance between two numbers on the axis, and the size of these.
 const TICK: f64 = 26.0;
+const AXIS_FONT: f64 = 11.0;
 /// After so many lanes the record numbers stand again, in a row of this height.
 const LANES_PER_AXIS: usize = 28;
 const AXIS: f64 = 24.0;
@@ -239,10 +240,18 @@ impl Picture<'_> {
         format!("...{}", starts.into_iter().find(fits).unwrap_or(""))
     }
 
+    /// After how many columns a number stands on the axis, so that none touches the next.
+    fn every(&self) -> usize {
+        let last = self.view.replay.events.last();
+        let digits = last.map_or(1, |event| event.record.to_string().len());
+        let width = AXIS_FONT * 0.6 * digits as f64 + 6.0;
+        (width.max(TICK) / self.layout.step).ceil() as usize
+    }
+
     /// Record numbers above each block of lanes with faint lines, so many apart that they can
     /// be read.
     fn axes(&mut self) {
-        let every = (TICK / self.layout.step).ceil() as usize;
+        let every = self.every();
         for (top, bottom) in self.layout.blocks() {
             let base = top - 8.0;
             self.grey_words((LEFT - 6.0, base), 12.0, "end", "record");
@@ -258,12 +267,13 @@ impl Picture<'_> {
 
     /// The numbers of the axes, over the joins that cross them.
     fn axis_numbers(&mut self) {
-        let every = (TICK / self.layout.step).ceil() as usize;
+        let every = self.every();
         for (top, _) in self.layout.blocks() {
             self.add("<g class=\"axis\">");
             for place in (0..self.layout.events).step_by(every) {
                 let record = self.view.replay.events[place].record;
-                self.number((self.layout.x(place), top - 8.0), 11.0, "middle", record);
+                let at = (self.layout.x(place), top - 8.0);
+                self.number(at, AXIS_FONT, "middle", record);
             }
             self.add("</g>");
         }
