@@ -17,6 +17,7 @@ use Rattle.definition.proofs.Steps.{cond-yes, cond-no}
 use Rattle.definition.proofs.Counting.{same-or-not, one-here, member-at, length-removeAt, length-numbers, numbers-at}
 use Rattle.state.specs.declared.State.{State}
 use Rattle.state.specs.Steps.{InOrder, Closed, Started, promoted, skip, lowered, BeforeRemoval, Removed}
+use Rattle.state.proofs.Numbers.{skip-near, skip-before, skip-behind}
 use Rattle.representation.specs.Represents.{Ordered, Represents}
 
 -- ---- the start
@@ -138,8 +139,8 @@ pub skip-cases : (pivot p : ℕ) → ((p < pivot) × (skip pivot p ≡ p)) ⊎ (
 skip-cases pivot p = go (ltb p pivot) refl
   where
     go : (t : Bool) → ltb p pivot ≡ t → ((p < pivot) × (skip pivot p ≡ p)) ⊎ ((pivot ≤ p) × (skip pivot p ≡ suc p))
-    go true e = inl (ltb-true p pivot e, cond-yes (ltb p pivot) p (suc p) e)
-    go false e = inr (ltb-false p pivot e, cond-no (ltb p pivot) p (suc p) e)
+    go true e = let h = ltb-true p pivot e in inl (h, skip-before pivot p h)
+    go false e = let h = ltb-false p pivot e in inr (h, skip-behind pivot p h)
 
 removed-before : {A : Type 0} (d : A) (p i : ℕ) (xs : List A) → i < p → getD (removeAt p xs) i d ≡ getD xs i d
 removed-before d zero i xs h = absurd (omega arith)
@@ -166,7 +167,7 @@ pub ordered-removal : (xs ys order : List ℕ) → Ordered xs order → (pivot l
 ordered-removal xs ys order o pivot last active l done =
     let fewer = length-removeAt pivot order active in record {
       entry = λ p h. done .entry p (omega arith)
-          ∙ o .entry (skip pivot p) (⊎-elim (λ b. let e = b .1 in omega arith) (λ b. let e = b .1 in omega arith) (skip-cases pivot p))
+          ∙ o .entry (skip pivot p) (let b = skip-near pivot p .1 in omega arith)
           ∙ sym (removed-at 0 pivot p order active);
       long = done .long;
     }
@@ -214,7 +215,7 @@ module _ (s : State) (order : List ℕ) (cs : List (List ℕ)) (rep : Represents
     stays p h =
         let w : suc p < s .width = let e = rep .width in omega arith in
         let o = skip pivot p in
-        let inside : o < length order = ⊎-elim (λ b. let e = b .1 in omega arith) (λ b. let e = b .1 in omega arith) (skip-cases pivot p) in
+        let inside : o < length order = let b = skip-near pivot p .1 in omega arith in
         let other : o ≡ pivot → ⊥ = λ e. ⊎-elim (λ b. let f = b .1 in let g = b .0 in omega arith) (λ b. let f = b .1 in let g = b .0 in omega arith) (skip-cases pivot p) in
         let c = getD (s .component) o 0 in
         let j = getD (s .place) o 0 in
@@ -264,7 +265,7 @@ module _ (s : State) (order : List ℕ) (cs : List (List ℕ)) (rep : Represents
           width = let e = done .width in omega arith;
           count = done .count ∙ rep .count ∙ sym same;
           component = λ p h. let e = done .component p (omega arith) in
-              let b = rep .component (skip pivot p) (⊎-elim (λ b. let e = b .1 in omega arith) (λ b. let e = b .1 in omega arith) (skip-cases pivot p)) in omega arith;
+              let b = rep .component (skip pivot p) (let n = skip-near pivot p .1 in omega arith) in omega arith;
           place = λ p h. stays p (omega arith) .0;
           member = λ p h. stays p (omega arith) .1;
           size = λ c h. ap (λ (l : List ℕ). getD l c 0) (done .size)

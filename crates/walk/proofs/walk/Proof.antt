@@ -1,4 +1,4 @@
--- `walk` meets its contract. The loop's invariant is that the state, the sums and the buffers are those of the definition's walk after as many records (`Looping`);
+-- `walk` meets its contract. The loop's invariant is that the active order, the state, the sums and the buffers are those of the definition's walk after as many records (`Looping`);
 -- each place of the loop's body asks what a lemma on one turn gives.
 use borrow.Author.Needs.{needs}
 use Prim.Native.Nat.{_-_}
