@@ -22,18 +22,19 @@ const MOST_REPEATED: usize = 80;
 const MOST_NOTES: usize = 8;
 
 /// The circuit's name and size.
-fn heading(name: &str, circuit: &Circuit) -> String {
+fn heading(name: &str, circuit: &Circuit, columns: usize) -> String {
     let head = &circuit.head;
     let expvals = match head.nexpvals {
         0 => String::new(),
         number => format!(", expvals {number}"),
     };
-    format!(
-        "{name}\n{} at the start, max {}{expvals}, {}\n",
+    let size = format!(
+        "{} at the start, max {}{expvals}, {}",
         figures::count(head.initial_k, "coordinate", "coordinates"),
         head.max_k,
         figures::count(circuit.records.len() as u64, "record", "records")
-    )
+    );
+    format!("{name}\n{}", figures::wrapped("", &size, columns))
 }
 
 /// What may be meant otherwise, a line each; empty where nothing is to be said.
@@ -243,7 +244,7 @@ fn groups(view: &View<'_>) -> String {
 pub fn plan(view: &View<'_>, style: &Style) -> String {
     let columns = style.columns;
     let name = visible(view.name);
-    let mut parts = vec![heading(&name, view.circuit), choice(view, columns)];
+    let mut parts = vec![heading(&name, view.circuit, columns), choice(view, columns)];
     parts.push(noted(view.circuit, columns));
     if let Choice::Tested { .. } = view.choice {
         parts.push(sizes(view, columns));
@@ -256,7 +257,8 @@ pub fn plan(view: &View<'_>, style: &Style) -> String {
         parts.push(groups(view));
     } else {
         let peak = figures::dimension(view.plan.dense_peak_dimension as u64);
-        parts.push(format!("Dimensions\n  dense peak   {peak}, from max\n"));
+        let peak = figures::wrapped("  dense peak   ", &format!("{peak}, from max"), columns);
+        parts.push(format!("Dimensions\n{peak}"));
     }
     if !view.replay.agrees(&view.plan) {
         let words = "The lanes drawn here do not agree with the plan. The plan counts.";
@@ -326,13 +328,9 @@ pub fn refused_record<'a>(circuit: &'a Circuit, refusal: &Refusal) -> Option<&'a
 /// A refusal in words, with the record's number and its line.
 pub fn refusal(name: &str, circuit: &Circuit, refusal: &Refusal, style: &Style) -> String {
     let wrapped = |words: &str| figures::wrapped("  ", words, style.columns);
-    let mut text = heading(name, circuit);
-    let _ = writeln!(
-        text,
-        "\nREFUSED: refusal {}{}",
-        refusal.number(),
-        place(circuit, refusal)
-    );
+    let mut text = heading(name, circuit, style.columns) + "\n";
+    let about = format!("refusal {}{}", refusal.number(), place(circuit, refusal));
+    text.push_str(&figures::wrapped("REFUSED: ", &about, style.columns));
     text.push_str(&wrapped(&reason(circuit, refusal)));
     if let Some(placed) = refused_record(circuit, refusal) {
         let line = figures::cut(&placed.text, MOST_REPEATED.min(style.columns));
@@ -370,19 +368,26 @@ mod tests {
     }
 
     /// What is said of a circuit that is refused.
-    fn said(text: &str) -> String {
+    fn said(text: &str, columns: usize) -> String {
         let circuit = circuit::parse(text.as_bytes()).unwrap();
         let refused = View::of("-", &circuit).err().unwrap();
         let style = Style {
-            columns: 80,
+            columns,
             ascii: false,
         };
         refusal("-", &circuit, &refused, &style)
     }
 
     #[test]
+    fn a_narrow_refusal_is_wrapped() {
+        let text = "initial 4\nmax 8\npromote\nmeasure ZZ___ pivot 2\n";
+        let found = said(text, 40);
+        assert!(found.lines().all(|line| line.len() <= 40), "{found}");
+    }
+
+    #[test]
     fn a_refusal_of_the_head_names_its_line() {
-        let found = said("initial 1\nmax 62\n");
+        let found = said("initial 1\nmax 62\n", 80);
         let wanted = "refusal 1 of the head, on line 2\n  max is 62 or more\n";
         assert!(found.contains(wanted), "{found}");
     }
@@ -403,7 +408,7 @@ mod tests {
             ("initial 1\nmax 8\nrotate X 1 sin=2", "or sin or cos is not"),
         ];
         for (text, wanted) in cases {
-            let found = said(text);
+            let found = said(text, 80);
             assert!(found.contains(wanted), "{found}");
             assert!(!found.contains("_k") && !found.contains("words"), "{found}");
         }
