@@ -1,7 +1,9 @@
 /*
- * Applies planned rows by the header's rules to states for which the result is known: the
- * rotation of 0 about Y, and measurements of states most of which have one outcome
- * for sure. `check` compares what is printed with apply.expected. C99 and C++11.
+ * Plans rotations about Y by the header's rule, a bit in both masks and 1 more in the phase, and
+ * one whose phase is left at 0, which is another operator. Then it applies rows by the header's
+ * rules to states for which the result is known: the rotation of 0 about Y, and measurements of
+ * states most of which have one outcome for sure. `check` compares what is printed with
+ * apply.expected. C99 and C++11.
  */
 #include <inttypes.h>
 #include <math.h>
@@ -99,6 +101,34 @@ static void measure(const char *name, uint64_t width, uint64_t x, uint64_t z, ui
     printf("%s: +1 with %.3f, -1 with %.3f\n", name, probability(row, a, 0), probability(row, a, 1));
 }
 
+/* Writes a rotation of a register by theta, which is an angle of half of it. */
+static void write_turn(uint64_t *record, uint64_t width, uint64_t x, uint64_t z, uint64_t phase, double theta)
+{
+    double angle = theta / 2, sine = sin(angle), cosine = cos(angle);
+    record[MIDVOKT_RECORD_KIND] = MIDVOKT_KIND_ROTATION;
+    record[MIDVOKT_RECORD_WIDTH] = width;
+    record[MIDVOKT_RECORD_X] = x;
+    record[MIDVOKT_RECORD_Z] = z;
+    record[MIDVOKT_RECORD_PHASE] = phase;
+    memcpy(record + MIDVOKT_RECORD_ANGLE, &angle, sizeof angle);
+    memcpy(record + MIDVOKT_RECORD_SINE, &sine, sizeof sine);
+    memcpy(record + MIDVOKT_RECORD_COSINE, &cosine, sizeof cosine);
+}
+
+/* Prints what applying a rotation of three coordinates takes. */
+static void turn_about(const char *name, uint64_t x, uint64_t z, uint64_t phase)
+{
+    uint64_t record[8];
+    const uint64_t *row;
+    struct number even, coefficient;
+    write_turn(record, 3, x, z, phase, 0.5);
+    row = planned(3, record);
+    even = at(row + MIDVOKT_ROW_EVEN_PHASE);
+    coefficient = at(row + MIDVOKT_ROTATION_COEFFICIENT);
+    printf("%s: local x %" PRIu64 ", z %" PRIu64 ", even phase (%g, %g), real pairs %" PRIu64 ", coefficient (%.3f, %.3f)\n", name,
+           row[MIDVOKT_ROW_X], row[MIDVOKT_ROW_Z], even.re, even.im, row[MIDVOKT_ROTATION_FLIP], coefficient.re, coefficient.im);
+}
+
 int main(void)
 {
     static const struct number zero[MOST] = {{1, 0}, {0, 0}, {0, 0}, {0, 0}};
@@ -106,14 +136,16 @@ int main(void)
     static const struct number plus_y[MOST] = {{ROOT, 0}, {0, ROOT}, {0, 0}, {0, 0}};
     static const struct number pair[MOST] = {{ROOT, 0}, {0, 0}, {0, 0}, {ROOT, 0}};
     struct number after[MOST];
-    double angle = 0.3, sine = sin(angle), cosine = cos(angle);
-    uint64_t turn[8] = {MIDVOKT_KIND_ROTATION, 1, 1, 1, 1, 0, 0, 0};
-    memcpy(turn + MIDVOKT_RECORD_ANGLE, &angle, sizeof angle);
-    memcpy(turn + MIDVOKT_RECORD_SINE, &sine, sizeof sine);
-    memcpy(turn + MIDVOKT_RECORD_COSINE, &cosine, sizeof cosine);
+    uint64_t turn[8];
+    turn_about("Y0", 1, 1, 1);
+    turn_about("Y0 Y1", 3, 3, 2);
+    turn_about("X0 Y2", 5, 4, 1);
+    turn_about("-Y1", 2, 2, 3);
+    turn_about("-iY0", 1, 1, 0);
+    write_turn(turn, 1, 1, 1, 1, 0.6);
     rotate(planned(1, turn), zero, after);
     printf("0 turned about Y by 0.6: (%.6f, %.6f), (%.6f, %.6f)\n", after[0].re, after[0].im, after[1].re, after[1].im);
-    printf("cosine and sine of 0.3: %.6f, %.6f\n", cosine, sine);
+    printf("cosine and sine of 0.3: %.6f, %.6f\n", cos(0.3), sin(0.3));
     measure("Y of its eigenstate", 1, 1, 1, 1, plus_y);
     measure("-Y of that", 1, 1, 1, 3, plus_y);
     measure("Z of 1", 1, 0, 1, 0, one);
