@@ -27,7 +27,7 @@ const LANES_PER_AXIS: usize = 28;
 const AXIS: f64 = 24.0;
 /// The width of a column in which the lane numbers stand again.
 const RULER: f64 = 30.0;
-/// About the width of a character of the title, by its own size.
+/// The size of the title's characters.
 const TITLE: f64 = 18.0;
 
 /// Distances by the number of records and components.
