@@ -111,7 +111,7 @@ enum midvokt_record_word {
 #define MIDVOKT_PROMOTIONS_WORDS(n) ((size_t)(n))
 #define MIDVOKT_MEASUREMENTS_WORDS(n) ((size_t)19 * (n))
 #define MIDVOKT_GROUPS_WORDS(n) ((size_t)1024 + 0 * (n))
-#define MIDVOKT_RESULT_WORDS 9
+#define MIDVOKT_RESULT_WORDS 14
 
 /* ---- Outputs. Words behind the used ones are zero; after a refusal all are ----------- */
 
@@ -198,9 +198,9 @@ enum midvokt_measurement_word {
  * are coordinates, in order. Each stands there once; in which order they come is left open. A
  * count of 0, or the end of the buffer, ends them. */
 
-/* The result. After a refusal words 1 to 8 are 0. A shorter result gets its first words, and
- * words behind the ninth are zero. A component of n members has the dimension 2 to the power
- * of n. The works estimate what simulating costs: dense for one register of all active
+/* The result. After a refusal words 1 to 13 are 0. A shorter result gets its first words, and
+ * words behind the fourteenth are zero. A component of n members has the dimension 2 to the
+ * power of n. The works estimate what simulating costs: dense for one register of all active
  * coordinates, component for the components with their joins. The split pays where rotations,
  * promotions and measurements with flag 0 are 4 or more together, dense work is at least 1.8
  * times component work and at least 8,192 more, and allocated is at most 1.25 times the dense
@@ -214,7 +214,30 @@ enum midvokt_result_word {
     MIDVOKT_RESULT_COMPONENT_WORK = 5,     /* bits of a double */
     MIDVOKT_RESULT_DENSE_PEAK = 6,         /* 2 to the power of max_k */
     MIDVOKT_RESULT_PEAK = 7,               /* the greatest sum of live dimensions */
-    MIDVOKT_RESULT_ALLOCATED = 8           /* the sum of greatest dimensions, at most 2^64 - 1 */
+    MIDVOKT_RESULT_ALLOCATED = 8,          /* the sum of greatest dimensions, at most 2^64 - 1 */
+    MIDVOKT_RESULT_WHOLE_MARK = 9,         /* which of the four below there are */
+    MIDVOKT_RESULT_WHOLE_DENSE = 10,       /* the dense work as a whole number */
+    MIDVOKT_RESULT_WHOLE_COMPONENT = 11,   /* the component work as a whole number */
+    MIDVOKT_RESULT_QUOTIENT = 12,          /* of dense by component: how many times cheaper */
+    MIDVOKT_RESULT_REMAINDER = 13          /* of that division, less than component */
+};
+
+/* The mark: which of the words behind it a plan has. Those that it has not are 0.
+ *
+ * Both works are given as whole numbers where the number of active coordinates, at the start
+ * and after each record, never passes 38. They are below 2^53, and the floats in words 4 and 5
+ * are exactly these numbers: nothing is rounded.
+ *
+ * dense == quotient * component + remainder. The quotient is 0 where the components cost more.
+ * The component work is 0 where the plan has no rows: then there is no quotient, and dense
+ * counts the rotations that are a global phase.
+ *
+ * A plan whose records are left unread (see midvokt_plan) has the mark 1 and both works 0,
+ * whatever initial_k is. After a refusal the mark is 0: look at the returned number first. */
+enum midvokt_whole_mark {
+    MIDVOKT_WHOLE_TOO_WIDE = 0,         /* more than 38 are active at some point: no numbers */
+    MIDVOKT_WHOLE_WITHOUT_QUOTIENT = 1, /* both works; component is 0 */
+    MIDVOKT_WHOLE_WITH_QUOTIENT = 2     /* both works, quotient and remainder */
 };
 
 /* ---- The number that the call returns ------------------------------------------------ */
@@ -263,12 +286,14 @@ enum midvokt_number {
  *   steps, merges, sizes, rotations, promotions, measurements, groups
  *               the outputs; at least as many words as the macros above say. Every word of
  *               them is written
- *   result      the refused record, and the plan's scalar fields; of any length
+ *   result      the refused record, the plan's scalar fields and its whole works; of any
+ *               length
  *
  * Where max_k is below 8 or nexpvals is not 0 (and max_k is below 62) records and buffer
  * lengths are not looked at, and there is a plan: not selected, the dense peak 2 to the power
- * of max_k, initial_k copied into the result whatever it is, and all else zero, all outputs
- * too. To tell such a plan from one whose records were read, look at max_k and nexpvals.
+ * of max_k, initial_k copied into the result whatever it is, the mark 1 (both works are 0),
+ * and all else zero, all outputs too. To tell such a plan from one whose records were read,
+ * look at max_k and nexpvals.
  */
 uint64_t midvokt_plan(uint64_t initial_k, uint64_t max_k, uint64_t nexpvals,
                       const uint64_t *records, size_t records_len,

@@ -1,6 +1,7 @@
 /*
  * Plans a small circuit through the C interface and prints the plan: three coordinates, a
- * rotation with x = 5, then a measurement with z = 6 and pivot 2. Then the same with a max_k
+ * rotation with x = 5, then a measurement with z = 6 and pivot 2. Then the works as whole
+ * numbers, of programs that differ in what is given of them, and the small circuit with a max_k
  * that is refused. `check` compares what is printed with plan.expected. C99 and C++11.
  */
 #include <inttypes.h>
@@ -19,6 +20,18 @@ static const uint64_t records[RECORDS * MIDVOKT_RECORD_WORDS] = {
     MIDVOKT_KIND_ACTIVE_MEASUREMENT, 3, 0, 6, 0, 2, 0, 0,
 };
 
+/* One record each: a promotion, a measurement of the last of 39 coordinates, and a rotation where
+ * none is active. */
+static const uint64_t promotion[MIDVOKT_RECORD_WORDS] = {
+    MIDVOKT_KIND_PROMOTION, 0, 0, 0, 0, 0, 0, 0,
+};
+static const uint64_t measurement[MIDVOKT_RECORD_WORDS] = {
+    MIDVOKT_KIND_ACTIVE_MEASUREMENT, 39, 0, UINT64_C(1) << 38, 0, 38, 0, 0,
+};
+static const uint64_t ignored[MIDVOKT_RECORD_WORDS] = {
+    MIDVOKT_KIND_ROTATION, 0, 0, 0, 0, 0, 0, ONE,
+};
+
 /* Just long enough for two records. */
 static uint64_t steps[MIDVOKT_STEPS_WORDS(RECORDS)];
 static uint64_t merges[MIDVOKT_MERGES_WORDS(RECORDS)];
@@ -32,12 +45,20 @@ static uint64_t result[MIDVOKT_RESULT_WORDS];
 #define LENGTH(words) (sizeof(words) / sizeof(words)[0])
 #define LENT(words) words, LENGTH(words)
 
+/* Plans so many record words from so many coordinates, with a result of so many words. */
+static uint64_t plan_into(uint64_t initial_k, uint64_t max_k, const uint64_t *words, size_t count,
+                          size_t result_len)
+{
+    memset(result, 0x5a, sizeof result);
+    return midvokt_plan(initial_k, max_k, 0, words, count, LENT(steps), LENT(merges), LENT(sizes),
+                        LENT(rotations), LENT(promotions), LENT(measurements), LENT(groups),
+                        result, result_len);
+}
+
 /* Plans the circuit with this max_k. */
 static uint64_t plan(uint64_t max_k)
 {
-    return midvokt_plan(3, max_k, 0, LENT(records), LENT(steps), LENT(merges), LENT(sizes),
-                        LENT(rotations), LENT(promotions), LENT(measurements), LENT(groups),
-                        LENT(result));
+    return plan_into(3, max_k, LENT(records), LENGTH(result));
 }
 
 /* The number whose bits a word has. */
@@ -156,10 +177,83 @@ static void print_result(void)
     print_word("allocated", result[MIDVOKT_RESULT_ALLOCATED]);
 }
 
+/* Both works as whole numbers and their quotient, as far as the mark gives them. */
+static void print_works(void)
+{
+    uint64_t dense = result[MIDVOKT_RESULT_WHOLE_DENSE];
+    uint64_t component = result[MIDVOKT_RESULT_WHOLE_COMPONENT];
+    switch (result[MIDVOKT_RESULT_WHOLE_MARK]) {
+    case MIDVOKT_WHOLE_WITH_QUOTIENT:
+        printf("  dense %" PRIu64 " = %" PRIu64 " times component %" PRIu64 ", remainder %" PRIu64 "\n",
+               dense, result[MIDVOKT_RESULT_QUOTIENT], component, result[MIDVOKT_RESULT_REMAINDER]);
+        break;
+    case MIDVOKT_WHOLE_WITHOUT_QUOTIENT:
+        printf("  dense %" PRIu64 ", component %" PRIu64 ": no quotient\n", dense, component);
+        break;
+    case MIDVOKT_WHOLE_TOO_WIDE:
+        printf("  too wide for whole numbers\n");
+        break;
+    default:
+        printf("  a mark that is none\n");
+        break;
+    }
+    print_words("  words 9 to 13:", result + MIDVOKT_RESULT_WHOLE_MARK, 5);
+}
+
+/* Whether the floats are the whole works, and the quotient and its remainder are theirs. */
+static int works_hold(void)
+{
+    uint64_t mark = result[MIDVOKT_RESULT_WHOLE_MARK];
+    uint64_t dense = result[MIDVOKT_RESULT_WHOLE_DENSE];
+    uint64_t component = result[MIDVOKT_RESULT_WHOLE_COMPONENT];
+    uint64_t quotient = result[MIDVOKT_RESULT_QUOTIENT];
+    uint64_t remainder = result[MIDVOKT_RESULT_REMAINDER];
+    int floats = value(result[MIDVOKT_RESULT_DENSE_WORK]) == (double)dense &&
+                 value(result[MIDVOKT_RESULT_COMPONENT_WORK]) == (double)component;
+    if (mark == MIDVOKT_WHOLE_TOO_WIDE)
+        return dense == 0 && component == 0 && quotient == 0 && remainder == 0;
+    if (mark == MIDVOKT_WHOLE_WITHOUT_QUOTIENT)
+        return floats && component == 0 && quotient == 0 && remainder == 0;
+    return floats && remainder < component && dense == quotient * component + remainder;
+}
+
+/* Plans some records, prints the whole works and tells whether they hold. */
+static int try_works(const char *name, uint64_t initial_k, uint64_t max_k, const uint64_t *words,
+                     size_t count)
+{
+    uint64_t number = plan_into(initial_k, max_k, words, count, LENGTH(result));
+    printf("%s: number %" PRIu64 "\n", name, number);
+    print_works();
+    return number == MIDVOKT_PLANNED && works_hold();
+}
+
+/* Whether a result of nine words gets the first nine, and nothing is written behind them. */
+static int nine_are_the_same(void)
+{
+    uint64_t whole[MIDVOKT_RESULT_WORDS], untouched;
+    plan(8);
+    memcpy(whole, result, sizeof whole);
+    plan_into(3, 8, LENT(records), 9);
+    memset(&untouched, 0x5a, sizeof untouched);
+    return memcmp(result, whole, 9 * sizeof whole[0]) == 0 &&
+           result[MIDVOKT_RESULT_WHOLE_MARK] == untouched;
+}
+
+/* Whether all words of the result behind the first are 0. */
+static int rest_is_zero(void)
+{
+    size_t place;
+    for (place = 1; place < LENGTH(result); place++)
+        if (result[place] != 0)
+            return 0;
+    return 1;
+}
+
 int main(void)
 {
     uint64_t record;
     uint64_t number = plan(8);
+    int right;
     printf("plan: number %" PRIu64 "\n", number);
     if (number != MIDVOKT_PLANNED)
         return 1;
@@ -168,8 +262,17 @@ int main(void)
         print_step(record);
     print_words("sizes", sizes, result[MIDVOKT_RESULT_COMPONENT_COUNT]);
     print_groups();
+    right = try_works("the same, whole works", 3, 8, LENT(records));
+    right &= try_works("12 and a promotion", 12, 13, LENT(promotion));
+    right &= try_works("37 and a promotion", 37, 38, LENT(promotion));
+    right &= try_works("38 and a promotion", 38, 39, LENT(promotion));
+    right &= try_works("39 and a measurement", 39, 39, LENT(measurement));
+    right &= try_works("a global phase", 0, 8, LENT(ignored));
+    right &= try_works("unread", UINT64_MAX, 7, LENT(promotion));
+    right &= nine_are_the_same();
     number = plan(62);
     printf("max_k 62: number %" PRIu64 ", index %" PRIu64 "\n", number, result[MIDVOKT_RESULT_INDEX]);
+    print_words("  words 9 to 13:", result + MIDVOKT_RESULT_WHOLE_MARK, 5);
     printf("words left in the first step: %" PRIu64 "\n", steps[MIDVOKT_STEP_KIND]);
-    return number == MIDVOKT_REFUSED_MAX_K ? 0 : 1;
+    return right && rest_is_zero() && number == MIDVOKT_REFUSED_MAX_K ? 0 : 1;
 }

@@ -6,9 +6,11 @@ use crate::rows::{
     ActiveComponentStepRef, MEASUREMENT_WORDS, ROTATION_WORDS, STEP_WORDS,
 };
 use crate::words::Words;
+use crate::works::WholeWorks;
 
-/// Words of a whole result: the refusal's record, then the eight scalar fields.
-pub const RESULT_WORDS: usize = 9;
+/// Words of a whole result: the refusal's record, then the eight scalar fields, then a mark and the
+/// four numbers of the whole works.
+pub const RESULT_WORDS: usize = 14;
 
 /// What planning knows of a program beside its records.
 #[derive(Clone, Copy, Debug, Default, PartialEq, Eq)]
@@ -200,10 +202,12 @@ pub struct Summary {
     pub component_peak_live_dimension: usize,
     /// The sum of all components' greatest dimensions, at most 2^64 - 1.
     pub component_allocated_dimension: usize,
+    /// Both works as whole numbers, and how many times cheaper the split is.
+    pub whole_works: WholeWorks,
 }
 
 impl Summary {
-    /// The fields from words 1 to 8 of a result.
+    /// The fields from words 1 to 13 of a result.
     fn from_result(result: &[u64; RESULT_WORDS]) -> Self {
         let mut words = Words::new(&result[1..]);
         Self {
@@ -215,6 +219,7 @@ impl Summary {
             dense_peak_dimension: words.size(),
             component_peak_live_dimension: words.size(),
             component_allocated_dimension: words.size(),
+            whole_works: WholeWorks::read(&mut words),
         }
     }
 }
@@ -248,7 +253,7 @@ extern "C" {
 
 /// The library's own call: 0 for a plan, else the refusal's number, with every word of
 /// the buffers and of the result written. A short result gets its first words, and words
-/// behind the ninth are zero.
+/// behind the fourteenth are zero.
 pub fn plan_words(
     head: &Head,
     records: &[u64],

@@ -85,11 +85,38 @@
 //! # }
 //! ```
 //!
+//! # Works as whole numbers
+//!
+//! `whole_works` of a plan and of a [`Summary`] has both works as whole numbers, and how many times
+//! cheaper the split is: the dense work divided by the component work, with its exact remainder. It
+//! says so where it has none ([`WholeWorks`]): more than 38 coordinates are active at the start or
+//! after a record, or the component work is 0. The float works are exactly these numbers wherever
+//! they are given.
+//!
+//! ```
+//! # #[cfg(feature = "std")] {
+//! use midvokt::{plan, Head, Record, WholeWorks};
+//!
+//! let head = Head { initial_k: 11, max_k: 11, nexpvals: 0 };
+//! let records = [0b11, 0b1100].map(|x| Record::rotation(11, x, 0, 0, 0.25));
+//! let plan = plan(&head, &records).unwrap();
+//! match plan.whole_works {
+//!     WholeWorks::TooWide => println!("too wide for whole numbers"),
+//!     WholeWorks::WithoutQuotient { dense } => println!("{dense}, and components cost nothing"),
+//!     WholeWorks::WithQuotient { dense, component, quotient, remainder } => {
+//!         assert_eq!((dense, component, quotient, remainder), (4096, 88, 46, 48));
+//!         assert_eq!(dense, quotient * component + remainder);
+//!         assert_eq!(plan.estimated_dense_work, dense as f64);
+//!     }
+//! }
+//! # }
+//! ```
+//!
 //! # What is the Rust simulator's
 //!
 //! The plan, its rows and their kernels have the names, fields, methods and defaults that the
-//! Rust simulator ticit gives them, and `groups` is added. What makes a kernel from a Pauli
-//! string is left out: kernels come from the proved library.
+//! Rust simulator ticit gives them, and `groups` and `whole_works` are added. What makes a kernel
+//! from a Pauli string is left out: kernels come from the proved library.
 //!
 //! # Features
 //!
@@ -150,6 +177,7 @@ mod record;
 mod refusal;
 mod rows;
 mod words;
+mod works;
 
 pub use call::{plan_into, plan_words, Buffers, Groups, Head, Lengths, Summary, RESULT_WORDS};
 #[cfg(not(feature = "num-complex"))]
@@ -170,6 +198,7 @@ pub use rows::{
     ActiveComponentMeasurementStep, ActiveComponentPromotionStep, ActiveComponentRotationStep,
     ActiveComponentStepKind, ActiveComponentStepRef, MEASUREMENT_WORDS, ROTATION_WORDS, STEP_WORDS,
 };
+pub use works::WholeWorks;
 
 /// The version of the project.
 pub const VERSION: &str = env!("CARGO_PKG_VERSION");

@@ -11,6 +11,7 @@ use crate::rows::{
     ActiveComponentMeasurementStep, ActiveComponentPromotionStep, ActiveComponentRotationStep,
     ActiveComponentStepKind, ActiveComponentStepRef,
 };
+use crate::works::WholeWorks;
 
 /// A whole plan.
 #[derive(Clone, Debug, Default, PartialEq)]
@@ -43,6 +44,8 @@ pub struct ActiveComponentPlan {
     pub component_peak_live_dimension: usize,
     /// The sum of all components' greatest dimensions, at most 2^64 - 1.
     pub component_allocated_dimension: usize,
+    /// Both works as whole numbers, and how many times cheaper the split is.
+    pub whole_works: WholeWorks,
     /// The members, which are coordinates in the order of local bits, of each component that lives
     /// at the end. Each stands there once; in which order they come is left open.
     pub groups: Vec<Vec<usize>>,
@@ -120,6 +123,7 @@ fn collect(summary: Summary, buffers: &Buffers<'_>, records: usize) -> ActiveCom
         dense_peak_dimension: summary.dense_peak_dimension,
         component_peak_live_dimension: summary.component_peak_live_dimension,
         component_allocated_dimension: summary.component_allocated_dimension,
+        whole_works: summary.whole_works,
         groups: buffers.groups().map(sizes).collect(),
     }
 }

@@ -1,6 +1,10 @@
-//! The names of the reasons are those that the C header has.
+//! The names and numbers that the crate has are those of the C header: the reasons, the length of
+//! the result, its words and the marks of the whole works.
 
-use midvokt::Reason;
+use midvokt::{
+    plan_into, plan_words, Buffers, Head, Lengths, Reason, Record, Summary, WholeWorks,
+    RESULT_WORDS,
+};
 
 const HEADER: &str = include_str!("../../../include/midvokt.h");
 
@@ -11,22 +15,90 @@ fn camel(name: &str) -> String {
         .collect()
 }
 
-/// The name and number of a refusal that a line of the header gives.
-fn refusal(line: &str) -> Option<(&str, u64)> {
-    let rest = line.trim().strip_prefix("MIDVOKT_REFUSED_")?;
+/// The name behind a prefix, and its number, that a line of an enum gives.
+fn named<'a>(line: &'a str, prefix: &str) -> Option<(&'a str, u64)> {
+    let rest = line.trim().strip_prefix(prefix)?;
     let (name, rest) = rest.split_once(" = ")?;
     let digits = rest.find(|c: char| !c.is_ascii_digit());
     let number = &rest[..digits.unwrap_or(rest.len())];
     Some((name, number.parse().expect("a number follows the name")))
 }
 
+/// All names behind a prefix, with their numbers, as the header lists them.
+fn all(prefix: &str) -> Vec<(&'static str, u64)> {
+    HEADER
+        .lines()
+        .filter_map(|line| named(line, prefix))
+        .collect()
+}
+
+/// The place of a word of the result, by its name.
+fn place(name: &str) -> usize {
+    let words = all("MIDVOKT_RESULT_");
+    let found = words.iter().find(|word| word.0 == name);
+    found.expect("the header has the name").1 as usize
+}
+
+/// The result's words and the summary of a plan with so many promotions from so many coordinates.
+fn planned(initial_k: u64, promotions: usize) -> ([u64; RESULT_WORDS], Summary) {
+    let head = Head {
+        initial_k,
+        max_k: 8,
+        nexpvals: 0,
+    };
+    let records = vec![Record::Promotion.encode(); promotions].concat();
+    let lengths = Lengths::for_records(promotions).in_order();
+    let mut words = lengths.map(|length| vec![0; length]);
+    let mut buffers = Buffers::from(words.each_mut().map(Vec::as_mut_slice));
+    let mut result = [0; RESULT_WORDS];
+    assert_eq!(plan_words(&head, &records, &mut buffers, &mut result), 0);
+    (result, plan_into(&head, &records, &mut buffers).unwrap())
+}
+
 #[test]
 fn the_reasons_have_the_names_of_the_header() {
     let mut numbers = Vec::new();
-    for (name, number) in HEADER.lines().filter_map(refusal) {
+    for (name, number) in all("MIDVOKT_REFUSED_") {
         let reason = Reason::from_number(number);
         assert_eq!(format!("{reason:?}"), camel(name), "number {number}");
         numbers.push(number);
     }
     assert!(numbers.into_iter().eq(1..=20));
+}
+
+#[test]
+fn the_result_has_the_length_of_the_header() {
+    assert!(HEADER.contains(&format!("#define MIDVOKT_RESULT_WORDS {RESULT_WORDS}\n")));
+    let places = all("MIDVOKT_RESULT_").into_iter().map(|word| word.1);
+    assert!(places.eq(0..RESULT_WORDS as u64));
+}
+
+#[test]
+fn the_marks_have_the_names_of_the_header() {
+    let marks = all("MIDVOKT_WHOLE_");
+    assert!(marks.iter().map(|mark| mark.1).eq(0..3));
+    for (initial_k, promotions, expected) in [(39, 0, 0), (38, 0, 1), (9, 5, 2)] {
+        let (result, summary) = planned(initial_k, promotions);
+        let (name, number) = marks[expected];
+        assert_eq!(result[place("WHOLE_MARK")], number);
+        let found = format!("{:?}", summary.whole_works);
+        assert_eq!(found.split(' ').next(), Some(camel(name).as_str()));
+    }
+}
+
+#[test]
+fn the_whole_works_stand_where_the_header_says() {
+    let (result, summary) = planned(9, 5);
+    let expected = WholeWorks::WithQuotient {
+        dense: result[place("WHOLE_DENSE")],
+        component: result[place("WHOLE_COMPONENT")],
+        quotient: result[place("QUOTIENT")],
+        remainder: result[place("REMAINDER")],
+    };
+    assert_eq!(summary.whole_works, expected);
+    let numbers = [31_744, 170, 186, 124];
+    assert_eq!(result[place("WHOLE_DENSE")..], numbers);
+    let float = |name| f64::from_bits(result[place(name)]);
+    assert_eq!(float("DENSE_WORK"), 31_744.0);
+    assert_eq!(float("COMPONENT_WORK"), 170.0);
 }

@@ -1,17 +1,24 @@
--- What a buffer holds once the words behind the used ones are zeroed: the walk's words stand in front, so it holds them and zeros, as the definition's plan says.
-use Prim.Native.Nat.{ℕ, _-_, _*_, _/_, _≤_}
+-- What a buffer holds once the words behind the used ones are zeroed: the walk's words stand in front, so it holds them and zeros, as the definition's plan says. And
+-- the whole works that are kept modulo 2 ^ 64 are the definition's wherever they are given: there they are below 2 ^ 52.
+use Prim.Native.Nat.{ℕ, _-_, _*_, _/_, _%_, _^_, _<_, _≤_}
 use native.Mathlib.Omega.{arith}
-use mathlib.Core.Path.{_≡_, sym, ap, _∙_}
+use native.Mathlib.Nat.{mod-eq-of-lt}
+use mathlib.Core.Path.{_≡_, refl, sym, ap, ap₂, _∙_}
+use mathlib.Core.Bool.{Bool, true, false, cond}
 use mathlib.Core.List.{List, _++_}
+use lib.Dec.{ltb}
 use lib.ListN.{length, take, replicate, length-take}
+use borrow.Author.Tests.{ltb-false}
 use lib.Seq.{take-append-le, take-length}
 use Rattle.records.specs.Record.{instructionsOf}
 use Rattle.records.proofs.Laws.{instructions-length}
 use Rattle.definition.specs.Lists.{concat}
+use Rattle.definition.specs.WholeWorks.{WholeSums, WholeWorks, tooWide, quotientOf, wholeWorksOf}
 use Rattle.definition.specs.Walk.{Walk, start}
 use Rattle.definition.specs.Plan.{planned, planFrom, padded, groupsOf}
 use Rattle.definition.proofs.Steps.{Run}
 use Rattle.definition.proofs.Growth.{run-rotations, run-measurements, start-wide, length-concat}
+use Rattle.definition.proofs.WholeWorks.{reached-exactly}
 use Rattle.definition.proofs.Room.{longest-count, steps-count, rows-most}
 use Rattle.walk.specs.declared.Summary.{Summary}
 use Rattle.walk.specs.Walking.{Buffers, Begins, Ended, SameLengths}
@@ -38,6 +45,20 @@ front-of-padded m n ws after count e =
     ∙ take-append-le (length ws) ws (replicate (m - length ws) 0) (omega arith)
     ∙ take-length ws
 
+-- sums that are kept modulo 2 ^ 64 say the same of the works where a narrow program's sums are below that
+whole-kept : (s : WholeSums) (dense component widest : ℕ) → dense ≡ s .dense % 2 ^ 64 → component ≡ s .component % 2 ^ 64 → widest ≡ s .widest
+    → (s .widest ≤ 38 → (s .dense < 2 ^ 64) × (s .component < 2 ^ 64))
+    → wholeWorksOf (record { dense = dense; component = component; widest = widest }) ≡ wholeWorksOf s
+unfolding wholeWorksOf
+whole-kept s dense component widest d c w small =
+    ap (λ (n : ℕ). cond (ltb 38 n) tooWide (quotientOf dense component)) w ∙ by-width (ltb 38 (s .widest)) refl
+  where
+    by-width : (t : Bool) → ltb 38 (s .widest) ≡ t → cond t tooWide (quotientOf dense component) ≡ cond t tooWide (quotientOf (s .dense) (s .component))
+    by-width true e = refl
+    by-width false e =
+        let below = small (ltb-false 38 (s .widest) e) in
+        ap₂ quotientOf (d ∙ mod-eq-of-lt (below .0)) (c ∙ mod-eq-of-lt (below .1))
+
 module _ {limit : ℕ} (k : ℕ) (ws : List ℕ) (w : Walk) (run : Run limit (start k) (instructionsOf ws) w) (s : Summary) (walked : Buffers) (ended : Ended w s walked) where
   rotation-words : 21 * s .tally .rotations ≡ length (concat (w .written .rotations))
   rotation-words = ap (λ (n : ℕ). 21 * n) (ended .sums .rotations) ∙ sym (length-concat 21 (w .written .rotations) (run-rotations run (start-wide k 21 .0)))
@@ -57,6 +78,14 @@ module _ {limit : ℕ} (k : ℕ) (ws : List ℕ) (w : Walk) (run : Run limit (st
         rotations = omega (arith, ended .sums .rotations);
         measurements = omega (arith, ended .sums .measurements);
       }
+
+  -- the whole works are the definition's
+  pub whole-same : length ws ≤ 8192
+      → wholeWorksOf (record { dense = s .tally .«whole_dense»; component = s .tally .«whole_work»; widest = s .tally .widest }) ≡ wholeWorksOf (w .whole)
+  whole-same few =
+      whole-kept (w .whole) (s .tally .«whole_dense») (s .tally .«whole_work») (s .tally .widest) (ended .sums .whole-dense) (ended .sums .whole-work) (ended .sums .widest)
+      (λ narrow. let l = instructions-length ws in
+      let e = reached-exactly k run (omega arith) narrow in (omega (arith, e .dense-most), omega (arith, e .component-most)))
 
   -- as many sizes as components
   pub size-words : s .count ≡ length (w .longest)

@@ -16,9 +16,11 @@ use Rattle.records.specs.Pass.{recordPass}
 use Rattle.records.specs.declared.Head.{Head}
 use Rattle.records.specs.declared.Checked.{Checked}
 use Rattle.definition.specs.Components.{allocatedFor}
+use Rattle.definition.specs.WholeWorks.{WholeWorks, wholeWorksOf}
 use Rattle.definition.specs.Walk.{Walk, Walked, finished, stopped}
 use Rattle.definition.specs.Plan.{Lengths, Plan, Result, planned, refusedAt, chosen, unread, unreadPlan, planFrom, wordsRefused, buffersRefused, refuseAll, afterPass, planRead, forDensePeak, planOf, heldAfter}
 use Rattle.definition.proofs.Steps.{cond-yes, cond-no}
+use Rattle.tally.specs.declared.WholeWorks.the-variants as Whole
 use Rattle.component_plan.specs.declared.ActiveComponentPlan.{ActiveComponentPlan}
 use Rattle.component_plan.specs.declared.Planned.{Planned}
 use Rattle.component_plan.specs.declared.Planned.the-variants as P
@@ -109,29 +111,21 @@ read-planned limit h densePeak ws before after p r e answer held = record {
   held = λ q f. subst (λ (x : Result). Held x before after) (sym e ∙ f) held;
 }
 
--- the scalar fields of a finished walk
-pub plan-same : (initial densePeak : ℕ) (w : Walk) (s : Summary) (b : Buffers) (allocated : ℕ) (r : ActiveComponentPlan) → Ended w s b
+-- the scalar fields of a finished walk, and its whole works
+pub plan-same : (initial densePeak : ℕ) (w : Walk) (s : Summary) (b : Buffers) (allocated : ℕ) (whole : WholeWorks) (r : ActiveComponentPlan) → Ended w s b
     → allocated ≡ allocatedFor (w .longest)
-    → r
-    ≡ record {
-      selected = chosen (s .tally .quantum) (s .tally .dense) (s .tally .work) allocated densePeak;
-      «initial_components» = initial;
-      «component_count» = s .count;
-      «estimated_dense_work» = s .tally .dense;
-      «estimated_component_work» = s .tally .work;
-      «dense_peak_dimension» = densePeak;
-      «component_peak_live_dimension» = s .tally .peak;
-      «component_allocated_dimension» = allocated;
-    }
+    → whole ≡ wholeWorksOf (w .whole)
+    → outcomeOf (P.Plan r)
+    ≡ accepted (chosen (s .tally .quantum) (s .tally .dense) (s .tally .work) allocated densePeak) initial (s .count) (s .tally .dense) (s .tally .work) densePeak
+    (s .tally .peak) allocated whole
     → outcomeOf (P.Plan r) ≡ outcomeIn (planned (planFrom initial densePeak w))
 unfolding planFrom
-plan-same initial densePeak w s b allocated r ended all e =
-    ap (λ (p : ActiveComponentPlan). outcomeOf (P.Plan p)) e
-    ∙ fields (ended .sums .quantum) (ended .sums .dense) (ended .sums .work) all (ended .count) (ended .sums .peak)
+plan-same initial densePeak w s b allocated whole r ended all same e =
+    e ∙ fields (ended .sums .quantum) (ended .sums .dense) (ended .sums .work) all (ended .count) (ended .sums .peak) same
   where
-    fields : {q q' : ℕ} {d d' v v' : _} {a a' n n' p p' : ℕ} → q ≡ q' → d ≡ d' → v ≡ v' → a ≡ a' → n ≡ n' → p ≡ p'
-        → accepted (chosen q d v a densePeak) initial n d v densePeak p a ≡ accepted (chosen q' d' v' a' densePeak) initial n' d' v' densePeak p' a'
-    fields q d v a n p i = accepted (chosen (q i) (d i) (v i) (a i) densePeak) initial (n i) (d i) (v i) densePeak (p i) (a i)
+    fields : {q q' : ℕ} {d d' v v' : _} {a a' n n' p p' : ℕ} {x x' : WholeWorks} → q ≡ q' → d ≡ d' → v ≡ v' → a ≡ a' → n ≡ n' → p ≡ p' → x ≡ x'
+        → accepted (chosen q d v a densePeak) initial n d v densePeak p a x ≡ accepted (chosen q' d' v' a' densePeak) initial n' d' v' densePeak p' a' x'
+    fields q d v a n p x i = accepted (chosen (q i) (d i) (v i) (a i) densePeak) initial (n i) (d i) (v i) densePeak (p i) (a i) (x i)
 
 -- and of a plan that read nothing
 pub unread-same : (initial densePeak : ℕ) (r : ActiveComponentPlan)
@@ -145,6 +139,7 @@ pub unread-same : (initial densePeak : ℕ) (r : ActiveComponentPlan)
       «dense_peak_dimension» = densePeak;
       «component_peak_live_dimension» = 0;
       «component_allocated_dimension» = 0;
+      «whole_works» = Whole.WithoutQuotient 0;
     }
     → outcomeOf (P.Plan r) ≡ outcomeIn (planned (unreadPlan initial densePeak))
 unfolding unreadPlan

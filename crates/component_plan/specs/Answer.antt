@@ -5,28 +5,30 @@ use mathlib.Core.List.{List}
 use mathlib.Core.Bool.{Bool}
 use lib.Ieee.{Float}
 use Rattle.records.specs.declared.Head.{Head}
+use Rattle.definition.specs.WholeWorks.{WholeWorks}
 use Rattle.definition.specs.Plan.{Plan, Result, planned, refusedAt, planOf, planRead}
+use Rattle.tally.specs.Tally.{worksOf}
 use Rattle.component_plan.specs.declared.Planned.{Planned}
 use Rattle.component_plan.specs.declared.Planned.the-variants as P
 use Rattle.walk.specs.Walking.{Buffers, lengthsOf}
 pub use Rattle.lent.specs.Lent.{Held}
 
--- "The result's eight scalar fields, in order", or "its number and record index"
+-- "The result's eight scalar fields, in order", and 02's whole works (CR 1), or "its number and record index"
 pub data Outcome : Type 0 where
-  accepted : (selected : Bool) (initialComponents componentCount : ℕ) (denseWork componentWork : Float) (densePeak peak allocated : ℕ) → Outcome
+  accepted : (selected : Bool) (initialComponents componentCount : ℕ) (denseWork componentWork : Float) (densePeak peak allocated : ℕ) (whole : WholeWorks) → Outcome
   turnedAway : (number index : ℕ) → Outcome
 
 -- of the code's answer
 abbrev pub outcomeOf : Planned → Outcome
 outcomeOf (P.Plan p) =
     accepted (p .selected) (p .«initial_components») (p .«component_count») (p .«estimated_dense_work») (p .«estimated_component_work»)
-    (p .«dense_peak_dimension») (p .«component_peak_live_dimension») (p .«component_allocated_dimension»)
+    (p .«dense_peak_dimension») (p .«component_peak_live_dimension») (p .«component_allocated_dimension») (worksOf (p .«whole_works»))
 outcomeOf (P.Refused number index) = turnedAway number index
 
 -- of the definition's result
 abbrev pub outcomeIn : Result → Outcome
 outcomeIn (planned p) =
-    accepted (p .selected) (p .initialComponents) (p .componentCount) (p .denseWork) (p .componentWork) (p .densePeak) (p .peak) (p .allocated)
+    accepted (p .selected) (p .initialComponents) (p .componentCount) (p .denseWork) (p .componentWork) (p .densePeak) (p .peak) (p .allocated) (p .wholeWorks)
 outcomeIn (refusedAt number index) = turnedAway number index
 
 -- the answer and every buffer are the definition's

@@ -3,8 +3,9 @@ ghost use mathlib.Core.Path.{_≡_};
 ghost use mathlib.Core.Bool.{false};
 ghost use lib.IntN.{pos};
 ghost use lib.Ieee.{fin};
+ghost use Rattle.definition.specs.WholeWorks.{wholeWorksOf};
 ghost use Rattle.definition.specs.Plan.{chosen};
-ghost use Rattle.component_plan.specs.Answer.{Answers, ReadAnswers};
+ghost use Rattle.component_plan.specs.Answer.{Answers, ReadAnswers, accepted, outcomeOf};
 use kernels::bits::ActiveLength;
 use kernels::bits::active_length;
 use lent::buffers_short;
@@ -16,6 +17,7 @@ use outputs::buffers::allocated;
 use records::Checked;
 use records::Head;
 use records::check_records;
+use tally::WholeWorks;
 use walk::Summary;
 use walk::Walked;
 use walk::walk;
@@ -23,7 +25,7 @@ use walk::walk;
 // The dimension's limit: a component of so many members is too large.
 const LIMIT: u64 = 62;
 
-// The scalar fields of a plan.
+// The scalar fields of a plan, and its works as whole numbers.
 pub struct ActiveComponentPlan {
     pub selected: bool,
     pub initial_components: u64,
@@ -33,6 +35,7 @@ pub struct ActiveComponentPlan {
     pub dense_peak_dimension: u64,
     pub component_peak_live_dimension: u64,
     pub component_allocated_dimension: u64,
+    pub whole_works: WholeWorks,
 }
 
 // The answer: a plan's scalar fields, or the first refusal's number and record index.
@@ -52,6 +55,7 @@ fn unread_plan(initial_k: u64, dense_peak: u64) -> ActiveComponentPlan
       «dense_peak_dimension» = «dense_peak»;
       «component_peak_live_dimension» = 0;
       «component_allocated_dimension» = 0;
+      «whole_works» = WholeWorks.WithoutQuotient 0;
     } ⌝ }
 {
     ActiveComponentPlan {
@@ -63,21 +67,15 @@ fn unread_plan(initial_k: u64, dense_peak: u64) -> ActiveComponentPlan
         dense_peak_dimension: dense_peak,
         component_peak_live_dimension: 0,
         component_allocated_dimension: 0,
+        whole_works: WholeWorks::WithoutQuotient { dense: 0 },
     }
 }
 
 // The scalar fields of a finished walk's plan.
 fn plan_of(initial_k: u64, dense_peak: u64, done: Summary, allocated: u64) -> ActiveComponentPlan
-    ensures { λ r. ⌜ r ≡ record {
-      selected = chosen (done .tally .quantum) (done .tally .dense) (done .tally .work) allocated «dense_peak»;
-      «initial_components» = «initial_k»;
-      «component_count» = done .count;
-      «estimated_dense_work» = done .tally .dense;
-      «estimated_component_work» = done .tally .work;
-      «dense_peak_dimension» = «dense_peak»;
-      «component_peak_live_dimension» = done .tally .peak;
-      «component_allocated_dimension» = allocated;
-    } ⌝ }
+    ensures { λ r. ⌜ outcomeOf (Planned.Plan r)
+        ≡ accepted (chosen (done .tally .quantum) (done .tally .dense) (done .tally .work) allocated «dense_peak») «initial_k» (done .count) (done .tally .dense) (done .tally .work) «dense_peak» (done .tally .peak) allocated
+        (wholeWorksOf (record { dense = done .tally .«whole_dense»; component = done .tally .«whole_work»; widest = done .tally .widest })) ⌝ }
 {
     let tally = done.tally;
     ActiveComponentPlan {
@@ -95,6 +93,7 @@ fn plan_of(initial_k: u64, dense_peak: u64, done: Summary, allocated: u64) -> Ac
         dense_peak_dimension: dense_peak,
         component_peak_live_dimension: tally.peak,
         component_allocated_dimension: allocated,
+        whole_works: tally.whole_works(),
     }
 }
 

@@ -15,8 +15,10 @@ pub mod Claims
 pub mod Gathering
 pub mod Accepted
 pub mod Works
+pub mod WholeFloats
 pub mod Room
 pub mod States
+pub mod WholeWorks
 pub mod Sizes
 pub mod Connected
 pub mod Padded

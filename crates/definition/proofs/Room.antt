@@ -27,6 +27,7 @@ use Rattle.records.specs.declared.Instruction.the-variants.{Rotation, Promotion
 use Rattle.records.proofs.Laws.{passed-sound, passed-coordinates, instructions-length, instruction-at}
 use Rattle.definition.specs.Lists.{removeAt, numbersFrom, total, concat}
 use Rattle.definition.specs.Components.{gathered, emptied, joined, amplitudes, liveDimension}
+use Rattle.definition.specs.WholeWorks.{withoutQuotient}
 use Rattle.definition.specs.Walk.{Written, Walk, Join, joinOf, rotationRow, measurementRow, start, noStep, ignoredStep, promotionStep, rotationStep, measurementStep}
 use Rattle.definition.specs.Plan.{Lengths, Plan, planned, unread, unreadPlan, groupsOf, planFrom, buffersRefused, forDensePeak, planOf, Result, refusedAt, padded, heldAfter}
 use Rattle.definition.specs.Connectivity.{occurrences, Member, NoRepeats, ActiveOrder, activeStart, activeStep, activeAfter, isPromotion}
@@ -482,7 +483,7 @@ passed-promotions k ws h e =
 -- ---- plans
 
 -- a plan that reads nothing is the empty one
-unread-planned : (limit : ℕ) (h : Head) (ws : List ℕ) (l : Lengths) (p : Plan) → unread h ≡ true → planOf limit h ws l ≡ planned p
+pub unread-planned : (limit : ℕ) (h : Head) (ws : List ℕ) (l : Lengths) (p : Plan) → unread h ≡ true → planOf limit h ws l ≡ planned p
     → (densePeak : ℕ) × (p ≡ unreadPlan (h .«initial_k») densePeak)
 unfolding planOf
 unread-planned limit h ws l p u = go (dimension limit (h .«max_k»))
@@ -493,7 +494,7 @@ unread-planned limit h ws l p u = go (dimension limit (h .«max_k»))
         let f : planned (unreadPlan (h .«initial_k») densePeak) ≡ planned p = sym (cond-yes (unread h) _ _ u) ∙ e in
         let same : p ≡ unreadPlan (h .«initial_k») densePeak = cc in (densePeak, same)
 
--- a plan that read nothing, field by field: unselected, and all zero but the two given
+-- a plan that read nothing, field by field: unselected, all zero but the two given, and no quotient
 pub unread-is : (initial densePeak : ℕ)
     → unreadPlan initial densePeak
     ≡ record {
@@ -505,6 +506,7 @@ pub unread-is : (initial densePeak : ℕ)
       densePeak = densePeak;
       peak = 0;
       allocated = 0;
+      wholeWorks = withoutQuotient 0;
       steps = [];
       merges = [];
       sizes = [];

@@ -13,6 +13,7 @@ use Rattle.records.specs.Record.{instructionsOf}
 use Rattle.records.specs.declared.Head.{Head}
 use Rattle.records.specs.declared.Instruction.{Instruction}
 use Rattle.definition.specs.Lists.{numbersFrom}
+use Rattle.definition.specs.WholeWorks.{withQuotient}
 use Rattle.definition.specs.Plan.{Plan, planned, planOf}
 use Rattle.definition.specs.Circuits.{enough}
 use Rattle.definition.specs.Connectivity.{ActiveOrder, activeStart, activeAfter, withLinks, advanced, setsOf, liveAt, momentsOf, moments, replayJoined, replayAfter, longestOf, measurementAt, Connected, replayMembers, rotationAt}
@@ -59,6 +60,7 @@ plan = record {
   densePeak = 256;
   peak = 10;
   allocated = 18;
+  wholeWorks = withQuotient 112 262 0 112;
   steps = 2 ∷ 0 ∷ 2 ∷ 1 ∷ 0 ∷ 0 ∷ 4 ∷ 0 ∷ 3 ∷ 0 ∷ 0 ∷ 0 ∷ 0 ∷ 0 ∷ 2 ∷ 2 ∷ 0 ∷ 0 ∷ 2 ∷ 3 ∷ [];
   merges = 0 ∷ 1 ∷ 0 ∷ 2 ∷ 0 ∷ 3 ∷ 4 ∷ 0 ∷ [];
   sizes = 3 ∷ 1 ∷ 1 ∷ 2 ∷ 1 ∷ [];

@@ -1,12 +1,15 @@
--- Laws that hold of every state the walk reaches and of every plan: works are numbers or infinite, never negative; the states that the Rust guards against
--- never occur; and the outputs fit the lent buffers.
+-- Laws that hold of every state the walk reaches and of every plan: works are numbers or infinite, never negative; where whole works are given, the float works are
+-- these numbers; the states that the Rust guards against never occur; and the outputs fit the lent buffers.
 use Prim.Native.Nat.{ℕ, _+_, _*_, _^_, _≤_, _<_}
+use mathlib.Core.Path.{_≡_}
 use mathlib.Core.List.{[]}
 use mathlib.Core.Bool.{Bool}
-use lib.IntN.{ℤ}
+use lib.IntN.{ℤ, pos}
 use lib.ListN.{length, getD}
-use lib.Ieee.{Float, inf, fin}
+use lib.Ieee.{Float, inf, fin, binary64, ofInt, toBits}
+use lib.Ieee.Exact.{HasValue}
 use Rattle.definition.specs.Components.{membersOf, sizeOf}
+use Rattle.definition.specs.WholeWorks.{WholeWorks, tooWide, withoutQuotient, withQuotient}
 use Rattle.definition.specs.Walk.{Walk, Written, joinOf}
 use Rattle.definition.specs.Plan.{Plan, Lengths}
 use Rattle.definition.specs.Connectivity.{Member}
@@ -20,6 +23,19 @@ pub data NonNegative : Float → Type 0 where
 pub record NonNegativeWorks (w : Walk) : Type 0 where
   pub dense : NonNegative (w .denseWork)
   pub component : NonNegative (w .componentWork)
+
+-- 02, CR 1: "The float works must equal these numbers wherever they are given": the work is the number's float, as a float and as bits, and it has the number's
+-- very value, so that nothing was rounded
+pub record IsWhole (work : Float) (whole : ℕ) : Type 0 where
+  pub float : work ≡ ofInt binary64 (pos whole)
+  pub bits : toBits binary64 work ≡ toBits binary64 (ofInt binary64 (pos whole))
+  pub exact : HasValue work Bool.false whole 1
+
+-- what a result's whole works say of its float works; "a quotient with its exact remainder"
+abbrev pub Agree : WholeWorks → Float → Float → Type 0
+Agree tooWide dense component = Unit
+Agree (withoutQuotient d) dense component = IsWhole dense d × IsWhole component 0
+Agree (withQuotient d c quotient remainder) dense component = IsWhole dense d × IsWhole component c × (d ≡ quotient * c + remainder) × (remainder < c)
 
 -- What the Rust guards against and 01 gives no number: a state where any of these fails is never met. An active coordinate has a number that was given out
 -- (the Rust's "invalid active coordinate") and stands in a component ("active coordinate without a component"); a component's members, joined or not, are

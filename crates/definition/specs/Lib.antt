@@ -1,5 +1,6 @@
 pub mod Lists
 pub mod Components
+pub mod WholeWorks
 pub mod Walk
 pub mod Plan
 pub mod Circuits

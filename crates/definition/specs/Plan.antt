@@ -1,4 +1,5 @@
--- The plan of an input: refusals 1 to 4, the record pass, the walk, the choice and the outputs. Written from 01, sections 4 and 6, and "Where planning stops".
+-- The plan of an input: refusals 1 to 4, the record pass, the walk, the choice and the outputs. Written from 01, sections 4 and 6, and "Where planning stops"; the
+-- whole works are 02's, CR 1.
 use Prim.Native.Nat.{ℕ, suc, _+_, _-_, _*_, _/_, _%_}
 use mathlib.Core.List.{List, [], _∷_, _++_}
 use mathlib.Core.Bool.{Bool, true, false, cond, not, _&&_, _||_}
@@ -15,6 +16,7 @@ use Rattle.records.specs.declared.Checked.{Checked}
 use Rattle.records.specs.declared.Checked.the-variants.{Passed, Refused}
 use Rattle.definition.specs.Lists.{concat}
 use Rattle.definition.specs.Components.{allocatedFor}
+use Rattle.definition.specs.WholeWorks.{WholeWorks, wholeWorksOf}
 use Rattle.definition.specs.Walk.{Walk, Walked, finished, stopped, start, walkFrom}
 
 -- the lengths of the seven lent buffers, in words
@@ -27,7 +29,7 @@ pub record Lengths : Type 0 where
   pub measurements : ℕ
   pub groups : ℕ
 
--- "The result's eight scalar fields, in order", and the used words of the seven outputs
+-- "The result's eight scalar fields, in order"; the whole works, which "the result also has"; and the used words of the seven outputs
 pub record Plan : Type 0 where
   pub selected : Bool
   pub initialComponents : ℕ
@@ -37,6 +39,7 @@ pub record Plan : Type 0 where
   pub densePeak : ℕ
   pub peak : ℕ
   pub allocated : ℕ
+  pub wholeWorks : WholeWorks
   pub steps : List ℕ
   pub merges : List ℕ
   pub sizes : List ℕ
@@ -95,7 +98,7 @@ groupsOf ([] ∷ cs) = groupsOf cs
 groupsOf ((a ∷ rest) ∷ cs) = suc (length rest) ∷ a ∷ rest ++ groupsOf cs
 
 unfoldable pub planFrom : ℕ → ℕ → Walk → Plan
-unfolding allocatedFor chosen
+unfolding allocatedFor chosen wholeWorksOf
 planFrom initial densePeak w =
     let o = w .written in
     let allocated = allocatedFor (w .longest) in record {
@@ -107,6 +110,7 @@ planFrom initial densePeak w =
       densePeak = densePeak;
       peak = w .peak;
       allocated = allocated;
+      wholeWorks = wholeWorksOf (w .whole);
       steps = o .steps;
       merges = o .merges;
       sizes = w .longest;
@@ -116,7 +120,8 @@ planFrom initial densePeak w =
       groups = groupsOf (w .components);
     }
 
--- "unselected, initial_components = initial_k, dense peak 2^max_k, all else zero": the plan of a walk from no coordinates over no records
+-- "unselected, initial_components = initial_k, dense peak 2^max_k, all else zero": the plan of a walk from no coordinates over no records. So, at any initial_k,
+-- it "has both works 0" and is not too wide
 unfoldable pub unreadPlan : ℕ → ℕ → Plan
 unfolding planFrom start
 unreadPlan initial densePeak = planFrom initial densePeak (start 0)

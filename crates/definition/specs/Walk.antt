@@ -1,5 +1,6 @@
--- The walk over the instructions, one step for each, with refusals 11 to 20. Written from 01, section 4, and its table "Where planning stops".
-use Prim.Native.Nat.{ℕ, suc, max}
+-- The walk over the instructions, one step for each, with refusals 11 to 20. Written from 01, section 4, and its table "Where planning stops"; the whole works
+-- that go along with it are 02's, CR 1.
+use Prim.Native.Nat.{ℕ, suc, _+_, _*_, _^_, max}
 use mathlib.Core.List.{List, [], _∷_, _++_, map}
 use mathlib.Core.Bool.{Bool, true, false, cond, not}
 use mathlib.Core.Option.{Option, some, none}
@@ -17,6 +18,7 @@ use Rattle.records.specs.declared.Instruction.{Instruction}
 use Rattle.records.specs.declared.Instruction.the-variants.{Rotation, Promotion, RecordMeasurement, RecordDetector, Measurement, Expectation, DormantBranch}
 use Rattle.definition.specs.Lists.{isIn, placeOf, removeAt, numbersFrom}
 use Rattle.definition.specs.Components.{touched, sourcesOf, gathered, joined, joiningCost, liveDimension, localMask, twoF}
+use Rattle.definition.specs.WholeWorks.{WholeSums, firstSums, withWorks, wholeJoiningCost}
 
 -- ---- the state
 
@@ -34,6 +36,7 @@ pub record Walk : Type 0 where
   pub longest : List ℕ
   pub denseWork : Float
   pub componentWork : Float
+  pub whole : WholeSums
   pub peak : ℕ
   pub quantum : ℕ
   pub written : Written
@@ -48,6 +51,7 @@ start k =
       longest = replicate k 1;
       denseWork = fin false 0 (pos 0);
       componentWork = fin false 0 (pos 0);
+      whole = firstSums (numbersFrom 0 k);
       peak = liveDimension alone;
       quantum = 0;
       written = record { steps = []; merges = []; rotations = []; promotions = []; measurements = [] };
@@ -96,10 +100,11 @@ pub record Join : Type 0 where
   pub components : List (List ℕ)
   pub longest : List ℕ
   pub work : Float
+  pub cost : ℕ
   pub peak : ℕ
 
 unfoldable pub joinOf : ℕ → ℕ → Walk → Join
-unfolding touched sourcesOf joined joiningCost liveDimension
+unfolding touched sourcesOf joined joiningCost wholeJoiningCost liveDimension
 joinOf x z w =
     let sources = sourcesOf (w .components) (touched x z (w .order) (w .components)) in
     let component = getD sources 0 0 in
@@ -111,6 +116,7 @@ joinOf x z w =
       components = components;
       longest = set (w .longest) component (max (getD (w .longest) component 0) (length members));
       work = add binary64 (w .componentWork) (joiningCost (w .components) sources);
+      cost = wholeJoiningCost (w .components) sources;
       peak = max (w .peak) (liveDimension components);
     }
 
@@ -142,25 +148,26 @@ abbrev pub withStep : ℕ → ℕ → Written → Written
 withStep kind payload o =
     record { steps = o .steps ++ (kind ∷ payload ∷ []); merges = o .merges; rotations = o .rotations; promotions = o .promotions; measurements = o .measurements }
 
--- the state as it was, with one step more, this dense work and so many quantum instructions
-abbrev pub keptStep : ℕ → Float → ℕ → Walk → Walk
-keptStep kind dense quantum w = record {
+-- the state as it was, with one step more, this dense work, so much of it more as a whole number, and so many quantum instructions
+abbrev pub keptStep : ℕ → Float → ℕ → ℕ → Walk → Walk
+keptStep kind dense more quantum w = record {
   order = w .order;
   components = w .components;
   longest = w .longest;
   componentWork = w .componentWork;
   peak = w .peak;
   denseWork = dense;
+  whole = withWorks more 0 (w .order) (w .whole);
   quantum = quantum;
   written = withStep kind 0 (w .written);
 }
 
 unfoldable pub noStep : Walk → Walk
-noStep w = keptStep 0 (w .denseWork) (w .quantum) w
+noStep w = keptStep 0 (w .denseWork) 0 (w .quantum) w
 
 -- "At k = 0 it becomes IgnoredGlobalPhase and still adds dense work 1"
 unfoldable pub ignoredStep : Walk → Walk
-ignoredStep w = keptStep 1 (add binary64 (w .denseWork) (exp2 0)) (suc (w .quantum)) w
+ignoredStep w = keptStep 1 (add binary64 (w .denseWork) (exp2 0)) 1 (suc (w .quantum)) w
 
 -- "Promotion: dense + 2·2^k; a new coordinate and component, both next numbers; component + 34"
 unfoldable pub promotionStep : Walk → Walk
@@ -174,6 +181,7 @@ promotionStep w =
       longest = w .longest ++ (1 ∷ []);
       denseWork = add binary64 (w .denseWork) (mul binary64 twoF (exp2 (length (w .order))));
       componentWork = add binary64 (w .componentWork) (fin false 17 (pos 1));
+      whole = withWorks (2 * 2 ^ length (w .order)) 34 (w .order ++ (next ∷ [])) (w .whole);
       peak = max (w .peak) (liveDimension components);
       quantum = suc (w .quantum);
       written = withStep 3 (length (o .promotions))
@@ -191,6 +199,7 @@ rotationStep w j k =
       longest = j .longest;
       denseWork = add binary64 (w .denseWork) (exp2 (length (w .order)));
       componentWork = add binary64 (j .work) (add binary64 (exp2 (length (j .members))) (fin false 1 (pos 5)));
+      whole = withWorks (2 ^ length (w .order)) (j .cost + (2 ^ length (j .members) + 32)) (w .order) (w .whole);
       peak = j .peak;
       quantum = suc (w .quantum);
       written = withStep 2 (length (o .rotations))
@@ -211,6 +220,7 @@ measurementStep w j pivot k =
       longest = j .longest;
       denseWork = add binary64 (w .denseWork) (mul binary64 twoF (exp2 (length (w .order))));
       componentWork = add binary64 (j .work) (add binary64 (mul binary64 twoF (exp2 (length (j .members)))) (fin false 1 (pos 5)));
+      whole = withWorks (2 * 2 ^ length (w .order)) (j .cost + (2 * 2 ^ length (j .members) + 32)) (removeAt pivot (w .order)) (w .whole);
       peak = max (j .peak) (liveDimension components);
       quantum = suc (w .quantum);
       written = withStep 4 (length (o .measurements))

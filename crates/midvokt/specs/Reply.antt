@@ -5,6 +5,7 @@ use mathlib.Core.List.{List, [], _∷_, map}
 use lib.ListN.{length, getD}
 use Rattle.records.specs.declared.Head.{Head}
 use Rattle.definition.specs.Lists.{numbersFrom}
+use Rattle.definition.specs.WholeWorks.{wholeWords}
 use Rattle.definition.specs.Walk.{flagWord, bitsWord}
 use Rattle.definition.specs.Plan.{planOf}
 use Rattle.walk.specs.Walking.{Buffers, lengthsOf}
@@ -12,13 +13,13 @@ use Rattle.component_plan.specs.Answer.{Outcome, accepted, turnedAway, outcomeI
 
 -- 0 for a plan, else the refusal's number
 abbrev pub numberOf : Outcome → ℕ
-numberOf (accepted selected initial count dense component densePeak peak allocated) = 0
+numberOf (accepted selected initial count dense component densePeak peak allocated whole) = 0
 numberOf (turnedAway number index) = number
 
--- the refusal's record index, 0 for a plan; then "the eight scalar fields in order", works as bits
+-- the refusal's record index, 0 for a plan; then "the eight scalar fields in order", works as bits; then the five words of the whole works
 abbrev pub wordsOf : Outcome → List ℕ
-wordsOf (accepted selected initial count dense component densePeak peak allocated) =
-    0 ∷ flagWord selected ∷ initial ∷ count ∷ bitsWord dense ∷ bitsWord component ∷ densePeak ∷ peak ∷ allocated ∷ []
+wordsOf (accepted selected initial count dense component densePeak peak allocated whole) =
+    0 ∷ flagWord selected ∷ initial ∷ count ∷ bitsWord dense ∷ bitsWord component ∷ densePeak ∷ peak ∷ allocated ∷ wholeWords whole
 wordsOf (turnedAway number index) = index ∷ []
 
 -- a lent result of n words: these, as many as there is room for, and zeros behind them

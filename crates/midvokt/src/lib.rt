@@ -1,6 +1,8 @@
 // The library as C and Rust link it: one function, plain words in and out. include/midvokt.h has its declaration.
 ghost use mathlib.Core.Path.{_≡_};
 ghost use lib.ListN.{length, getD};
+ghost use Rattle.definition.specs.WholeWorks.{wholeWords};
+ghost use Rattle.tally.specs.Tally.{worksOf};
 ghost use Rattle.component_plan.specs.Answer.{outcomeOf};
 ghost use Rattle.midvokt.specs.Reply.{Replies, numberOf, wordsOf, laidOut};
 use component_plan::ActiveComponentPlan;
@@ -9,6 +11,7 @@ use component_plan::build_active_component_plan;
 use outputs::rows::flag_word;
 use outputs::rows::float_bits;
 use records::Head;
+use tally::WholeWorks;
 
 // 0 for a plan, and else the refusal's number.
 fn reply_number(planned: Planned) -> u64
@@ -20,7 +23,34 @@ fn reply_number(planned: Planned) -> u64
     }
 }
 
-// Word i of a plan's result: 0, the eight scalar fields, and 0 past them.
+// Word i of the whole works: the mark, dense, component, quotient and remainder, and 0 past them.
+fn whole_word(works: WholeWorks, i: usize) -> u64
+    ensures { λ r. ⌜ r ≡ getD (wholeWords (worksOf works)) i 0 ⌝ }
+{
+    match works {
+        WholeWorks::TooWide => 0,
+        WholeWorks::WithoutQuotient { dense } => match i {
+            0 => 1,
+            1 => dense,
+            _ => 0,
+        },
+        WholeWorks::WithQuotient {
+            dense,
+            component,
+            quotient,
+            remainder,
+        } => match i {
+            0 => 2,
+            1 => dense,
+            2 => component,
+            3 => quotient,
+            4 => remainder,
+            _ => 0,
+        },
+    }
+}
+
+// Word i of a plan's result: 0, the eight scalar fields, the five words of the whole works, and 0 past them.
 fn plan_word(plan: ActiveComponentPlan, i: usize) -> u64
     ensures { λ r. ⌜ r ≡ getD (wordsOf (outcomeOf (Planned.Plan plan))) i 0 ⌝ }
 {
@@ -33,7 +63,13 @@ fn plan_word(plan: ActiveComponentPlan, i: usize) -> u64
         6 => plan.dense_peak_dimension,
         7 => plan.component_peak_live_dimension,
         8 => plan.component_allocated_dimension,
-        _ => 0,
+        _ => {
+            if i < 9 {
+                return 0;
+            }
+            let works = plan.whole_works;
+            whole_word(works, i - 9)
+        }
     }
 }
 

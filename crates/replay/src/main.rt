@@ -127,9 +127,9 @@ fn compare_output(so_far: Found, buffer: &[u64]) -> Found {
     Found::Read(holds(buffer, used) && agrees)
 }
 
-// Reads the number and the nine words that the call should give, and compares.
-fn compare_answer(number: u64, result: &[u64; 9]) -> Found {
-    let mut expected = [0u64; 10];
+// Reads the number and the fourteen words that the call should give, and compares.
+fn compare_answer(number: u64, result: &[u64; 14]) -> Found {
+    let mut expected = [0u64; 15];
     if !read_words(&mut expected) {
         return Found::CutShort;
     }
@@ -148,7 +148,7 @@ fn plan_and_compare(
     measurements: &mut [u64],
     groups: &mut [u64],
 ) -> Found {
-    let mut result = [7u64; 9];
+    let mut result = [7u64; 14];
     let number = midvokt_plan(
         head[0],
         head[1],

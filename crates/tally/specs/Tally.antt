@@ -1,5 +1,5 @@
--- What the contracts of the crate `tally` say. 01, section 4.
-use Prim.Native.Nat.{ℕ, _+_, _-_, _*_, _^_, _<_, _≤_, max}
+-- What the contracts of the crate `tally` say. 01, section 4, and 02, CR 1: the whole works are kept modulo 2 ^ 64.
+use Prim.Native.Nat.{ℕ, _+_, _-_, _*_, _%_, _^_, _<_, _≤_, max}
 use mathlib.Core.List.{List, [], _∷_, map}
 use mathlib.Core.Bool.{false, cond}
 use lib.Dec.{leb}
@@ -9,8 +9,11 @@ use lib.Ieee.{Float, fin, binary64, add, mul}
 use Rattle.kernels.specs.Bits.{exp2}
 use Rattle.definition.specs.Lists.{total}
 use Rattle.definition.specs.Components.{twoF}
+use Rattle.definition.specs.WholeWorks.{WholeWorks, tooWide, withoutQuotient, withQuotient}
 use Rattle.tally.specs.declared.Joining.{Joining}
 use Rattle.tally.specs.declared.Tally.{Tally}
+use Rattle.tally.specs.declared.WholeWorks as Declared
+use Rattle.tally.specs.declared.WholeWorks.the-variants as W
 
 -- how many members the listed components have together, and their dimensions together, by the sizes
 abbrev pub sizesOf : List ℕ → List ℕ → ℕ
@@ -25,12 +28,18 @@ costIn size grown sum [] = sum
 costIn size grown sum (s ∷ ss) =
     let next = grown + getD size s 0 in costIn size next (add binary64 sum (mul binary64 twoF (exp2 next))) ss
 
+-- the same sum as a whole number
+abbrev pub wholeCostIn : List ℕ → ℕ → List ℕ → ℕ
+wholeCostIn size grown [] = 0
+wholeCostIn size grown (s ∷ ss) = let next = grown + getD size s 0 in 2 * 2 ^ next + wholeCostIn size next ss
+
 unfoldable pub joiningOf : List ℕ → List ℕ → Joining
 joiningOf size sources = record {
   count = length sources;
   target = getD sources 0 0;
   size = sizesOf size sources;
   cost = costIn size (getD size (getD sources 0 0) 0) (fin false 0 (pos 0)) (drop 1 sources);
+  «whole_cost» = wholeCostIn size (getD size (getD sources 0 0) 0) (drop 1 sources) % 2 ^ 64;
   freed = powers size sources;
 }
 
@@ -57,6 +66,9 @@ unfoldable pub startTally : ℕ → Tally
 startTally k = record {
   dense = fin false 0 (pos 0);
   work = fin false 0 (pos 0);
+  «whole_dense» = 0;
+  «whole_work» = 0;
+  widest = k;
   live = 2 * k;
   peak = 2 * k;
   merges = 0;
@@ -72,6 +84,9 @@ joinedTally t j =
     let live = t .live - j .freed + 2 ^ j .size in record {
       dense = t .dense;
       work = add binary64 (t .work) (j .cost);
+      «whole_dense» = t .«whole_dense»;
+      «whole_work» = (t .«whole_work» + j .«whole_cost») % 2 ^ 64;
+      widest = t .widest;
       live = live;
       peak = max (t .peak) live;
       merges = t .merges + j .count;
@@ -86,6 +101,9 @@ unfoldable pub ignoredTally : Tally → Tally
 ignoredTally t = record {
   dense = add binary64 (t .dense) (exp2 0);
   work = t .work;
+  «whole_dense» = (t .«whole_dense» + 1) % 2 ^ 64;
+  «whole_work» = t .«whole_work»;
+  widest = t .widest;
   live = t .live;
   peak = t .peak;
   merges = t .merges;
@@ -102,6 +120,9 @@ rotatedTally t j k =
     let next = joinedTally t j in record {
       dense = add binary64 (next .dense) (exp2 k);
       work = add binary64 (next .work) (add binary64 (exp2 (j .size)) (fin false 1 (pos 5)));
+      «whole_dense» = (next .«whole_dense» + 2 ^ k) % 2 ^ 64;
+      «whole_work» = (next .«whole_work» + (2 ^ j .size + 32)) % 2 ^ 64;
+      widest = next .widest;
       live = next .live;
       peak = next .peak;
       merges = next .merges;
@@ -116,6 +137,9 @@ unfoldable pub promotedTally : Tally → ℕ → Tally
 promotedTally t k = record {
   dense = add binary64 (t .dense) (mul binary64 twoF (exp2 k));
   work = add binary64 (t .work) (fin false 17 (pos 1));
+  «whole_dense» = (t .«whole_dense» + 2 * 2 ^ k) % 2 ^ 64;
+  «whole_work» = (t .«whole_work» + 34) % 2 ^ 64;
+  widest = max (t .widest) (k + 1);
   live = t .live + 2;
   peak = max (t .peak) (t .live + 2);
   merges = t .merges;
@@ -132,6 +156,9 @@ measuredTally t j k =
     let next = joinedTally t j in record {
       dense = add binary64 (next .dense) (mul binary64 twoF (exp2 k));
       work = add binary64 (next .work) (add binary64 (mul binary64 twoF (exp2 (j .size))) (fin false 1 (pos 5)));
+      «whole_dense» = (next .«whole_dense» + 2 * 2 ^ k) % 2 ^ 64;
+      «whole_work» = (next .«whole_work» + (2 * 2 ^ j .size + 32)) % 2 ^ 64;
+      widest = next .widest;
       live = next .live - 2 ^ j .size + powerLeft (j .size);
       peak = next .peak;
       merges = next .merges;
@@ -140,3 +167,9 @@ measuredTally t j k =
       measurements = next .measurements + 1;
       quantum = next .quantum;
     }
+
+-- the code's whole works as the definition has them
+abbrev pub worksOf : Declared.WholeWorks → WholeWorks
+worksOf W.TooWide = tooWide
+worksOf (W.WithoutQuotient dense) = withoutQuotient dense
+worksOf (W.WithQuotient dense component quotient remainder) = withQuotient dense component quotient remainder

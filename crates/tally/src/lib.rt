@@ -1,25 +1,36 @@
 // Works, dimensions and counts, kept as the walk goes. Every sum of floats is in the order of the definition, each addition
-// rounded once.
+// rounded once. Beside them the works are kept as whole numbers modulo 2^64; they are handed out where no width passed 38,
+// and there they did not wrap.
 ghost use mathlib.Core.Path.{_≡_};
-ghost use Prim.Native.Nat.{_+_, _*_, _^_, _<_, _≤_, max};
+ghost use Prim.Native.Nat.{_+_, _*_, _%_, _^_, _<_, _≤_, max};
 ghost use lib.ListN.{getD};
-ghost use Rattle.tally.specs.Tally.{Countable, joiningOf, JoinFits, startTally, joinedTally, ignoredTally, rotatedTally, promotedTally, measuredTally, powerLeft};
+ghost use Rattle.definition.specs.WholeWorks.{wholeWorksOf};
+ghost use Rattle.tally.specs.Tally.{Countable, joiningOf, JoinFits, startTally, joinedTally, ignoredTally, rotatedTally, promotedTally, measuredTally, powerLeft, worksOf};
 use kernels::bits::exact_exp2;
+use std::num::wrapping_add_u64;
+
+// Past this active width the works are not given as whole numbers.
+const WIDEST: u64 = 38;
 
 // A join that is to be made: how many sources it has, the first of them, how many members they have together, the joining
-// cost, and the sources' dimensions together.
+// cost as a float and as a whole number, and the sources' dimensions together.
 pub struct Joining {
     pub count: usize,
     pub target: u64,
     pub size: u64,
     pub cost: f64,
+    pub whole_cost: u64,
     pub freed: u64,
 }
 
-// The works, the live dimension and its peak, and how many merges, rows of each kind and quantum instructions there are.
+// The works as floats and as whole numbers, the widest active width, the live dimension and its peak, and how many merges,
+// rows of each kind and quantum instructions there are.
 pub struct Tally {
     pub dense: f64,
     pub work: f64,
+    pub whole_dense: u64,
+    pub whole_work: u64,
+    pub widest: u64,
     pub live: u64,
     pub peak: u64,
     pub merges: usize,
@@ -29,12 +40,41 @@ pub struct Tally {
     pub quantum: u64,
 }
 
+// Both works as whole numbers, and dense divided by component: not where a width passed 38, and no quotient where the
+// component work is 0.
+pub enum WholeWorks {
+    TooWide,
+    WithoutQuotient {
+        dense: u64,
+    },
+    WithQuotient {
+        dense: u64,
+        component: u64,
+        quotient: u64,
+        remainder: u64,
+    },
+}
+
 // The dimension of so many members.
 fn power(size: u64) -> u64
     requires { ⌜ size < 64 ⌝ }
     ensures { λ r. ⌜ r ≡ 2 ^ size ⌝ }
 {
     1u64 << size
+}
+
+// 2 to the power of k, modulo 2^64.
+fn power_low(k: u64) -> u64
+    ensures { λ r. ⌜ r ≡ 2 ^ k % 2 ^ 64 ⌝ }
+{
+    if k < 64 { power(k) } else { 0 }
+}
+
+// Twice 2 to the power of k, modulo 2^64.
+fn double_low(k: u64) -> u64
+    ensures { λ r. ⌜ r ≡ 2 * 2 ^ k % 2 ^ 64 ⌝ }
+{
+    if k < 63 { power(k + 1) } else { 0 }
 }
 
 // The dimension that a component has without one of its members.
@@ -77,12 +117,14 @@ pub fn join_of(size: &[u8; 512], sources: &[u64]) -> Joining
     let mut grown = size_at(size, target);
     let mut freed = power(grown);
     let mut cost: f64 = 0.0;
+    let mut whole_cost: u64 = 0;
     let mut i: usize = 1;
     while i < sources.len() {
         let more = size_at(size, sources[i]);
         grown += more;
         freed += power(more);
         cost = cost + 2.0 * exact_exp2(grown);
+        whole_cost = wrapping_add_u64(whole_cost, double_low(grown));
         i += 1;
     }
     Joining {
@@ -90,6 +132,7 @@ pub fn join_of(size: &[u8; 512], sources: &[u64]) -> Joining
         target,
         size: grown,
         cost,
+        whole_cost,
         freed,
     }
 }
@@ -103,6 +146,9 @@ impl Tally {
         Tally {
             dense: 0.0,
             work: 0.0,
+            whole_dense: 0,
+            whole_work: 0,
+            widest: k,
             live: 2 * k,
             peak: 2 * k,
             merges: 0,
@@ -121,6 +167,7 @@ impl Tally {
         self.live = self.live - join.freed + power(join.size);
         self.peak = larger(self.peak, self.live);
         self.work = self.work + join.cost;
+        self.whole_work = wrapping_add_u64(self.whole_work, join.whole_cost);
         self.merges += join.count;
         self.quantum += 1;
         self
@@ -132,6 +179,7 @@ impl Tally {
         ensures { λ r. ⌜ r ≡ ignoredTally self ⌝ }
     {
         self.dense = self.dense + exact_exp2(0);
+        self.whole_dense = wrapping_add_u64(self.whole_dense, 1);
         self.quantum += 1;
         self
     }
@@ -144,17 +192,22 @@ impl Tally {
         let mut next = self.joined(join);
         next.dense = next.dense + exact_exp2(k);
         next.work = next.work + (exact_exp2(join.size) + 32.0);
+        next.whole_dense = wrapping_add_u64(next.whole_dense, power_low(k));
+        next.whole_work = wrapping_add_u64(next.whole_work, power(join.size) + 32);
         next.rotations += 1;
         next
     }
 
     // After a promotion at k coordinates.
     pub fn promoted(mut self, k: u64) -> Self
-        requires { ⌜ self .live + 2 < 2 ^ 64 ⌝ ∗ ⌜ self .promotions + 1 < 2 ^ 64 ⌝ ∗ ⌜ self .quantum + 1 < 2 ^ 64 ⌝ }
+        requires { ⌜ k < 512 ⌝ ∗ ⌜ self .live + 2 < 2 ^ 64 ⌝ ∗ ⌜ self .promotions + 1 < 2 ^ 64 ⌝ ∗ ⌜ self .quantum + 1 < 2 ^ 64 ⌝ }
         ensures { λ r. ⌜ r ≡ promotedTally self k ⌝ }
     {
         self.dense = self.dense + 2.0 * exact_exp2(k);
         self.work = self.work + 34.0;
+        self.whole_dense = wrapping_add_u64(self.whole_dense, double_low(k));
+        self.whole_work = wrapping_add_u64(self.whole_work, 34);
+        self.widest = larger(self.widest, k + 1);
         self.live += 2;
         self.peak = larger(self.peak, self.live);
         self.promotions += 1;
@@ -170,8 +223,31 @@ impl Tally {
         let mut next = self.joined(join);
         next.dense = next.dense + 2.0 * exact_exp2(k);
         next.work = next.work + (2.0 * exact_exp2(join.size) + 32.0);
+        next.whole_dense = wrapping_add_u64(next.whole_dense, double_low(k));
+        let removal = wrapping_add_u64(double_low(join.size), 32);
+        next.whole_work = wrapping_add_u64(next.whole_work, removal);
         next.live = next.live - power(join.size) + power_left(join.size);
         next.measurements += 1;
         next
+    }
+
+    // The works as whole numbers, and how many times the component work goes into the dense one.
+    pub fn whole_works(self) -> WholeWorks
+        ensures { λ r. ⌜ worksOf r ≡ wholeWorksOf (record { dense = self .«whole_dense»; component = self .«whole_work»; widest = self .widest }) ⌝ }
+    {
+        let dense = self.whole_dense;
+        let component = self.whole_work;
+        if WIDEST < self.widest {
+            return WholeWorks::TooWide;
+        }
+        if component == 0 {
+            return WholeWorks::WithoutQuotient { dense };
+        }
+        WholeWorks::WithQuotient {
+            dense,
+            component,
+            quotient: dense / component,
+            remainder: dense % component,
+        }
     }
 }

@@ -66,7 +66,7 @@ WhereJoined width asked DormantBranch = Unit
 
 -- a join of no sources
 abbrev pub noJoining : Joining
-noJoining = record { count = 0; target = 0; size = 0; cost = fin false 0 (pos 0); freed = 0 }
+noJoining = record { count = 0; target = 0; size = 0; cost = fin false 0 (pos 0); «whole_cost» = 0; freed = 0 }
 
 abbrev pub joinBefore : List ℕ → List ℕ → Joining
 joinBefore size [] = noJoining
@@ -122,7 +122,8 @@ pub record MeasurementDone (width index : ℕ) (join : Joining) (tally next : Ta
   pub row : measurements' ≡ patch (19 * tally .measurements) (measurementRow (join .target) (tally .merges) (join .count) k (eqb (join .size) 1)) measurements
 
 -- what a promotion asks
-pub record PromotionFits (next index : ℕ) (tally : Tally) (steps sizes promotions : List ℕ) : Type 0 where
+pub record PromotionFits (next width index : ℕ) (tally : Tally) (steps sizes promotions : List ℕ) : Type 0 where
+  pub narrow : width < 512
   pub live : tally .live + 2 < 2 ^ 64
   pub quantum : tally .quantum + 1 < 2 ^ 64
   pub row-room : tally .promotions < length promotions

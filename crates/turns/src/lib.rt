@@ -50,6 +50,7 @@ fn without_join(number: u64) -> Opening
             target: 0,
             size: 0,
             cost: 0.0,
+            whole_cost: 0,
             freed: 0,
         },
     }
@@ -287,7 +288,7 @@ pub fn promote(
     sizes: &mut [u64],
     promotions: &mut [u64],
 ) -> Tally
-    requires { ⌜ PromotionFits next index tally (now steps) (now sizes) (now promotions) ⌝ }
+    requires { ⌜ PromotionFits next width index tally (now steps) (now sizes) (now promotions) ⌝ }
     ensures { λ r. ⌜ PromotionDone next width index tally r (now (steps .entry)) (now (sizes .entry)) (now (promotions .entry)) (now (steps .exit)) (now (sizes .exit)) (now (promotions .exit)) ⌝ }
 {
     let row = tally.promotions;

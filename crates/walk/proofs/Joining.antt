@@ -3,7 +3,7 @@ use mathlib.Core.Path.{_≡_, refl, sym, ap, _∙_, subst}
 use mathlib.Core.Logic.{_⊎_, inl, inr}
 use mathlib.Core.Bool.{false}
 use mathlib.Core.List.{List, [], _∷_, _++_, append-nil}
-use Prim.Native.Nat.{ℕ, _+_, _-_, _%_, _^_, _≤_, _<_}
+use Prim.Native.Nat.{ℕ, _+_, _-_, _*_, _%_, _^_, _≤_, _<_}
 use native.Mathlib.Omega.{arith}
 use lib.Dec.{eqb}
 use lib.IntN.{pos}
@@ -14,6 +14,7 @@ use lib.Pow.{pow-mono}
 use Rattle.kernels.specs.Bits.{bitAt, exp2}
 use Rattle.definition.specs.Lists.{isIn, placeOf, concat}
 use Rattle.definition.specs.Components.{membersOf, sizeOf, gathered, joined, twoF, costFrom, joiningCost, liveDimension, localMask}
+use Rattle.definition.specs.WholeWorks.{wholeCostFrom, wholeJoiningCost}
 use Rattle.definition.specs.Walk.{Walk, Join, joinOf}
 use Rattle.definition.specs.Connectivity.{Member, NoRepeats, ActiveOrder, supportOf}
 use Rattle.definition.proofs.Counting.{member-length, member-head, member-tail}
@@ -27,7 +28,7 @@ use Rattle.definition.proofs.States.{tracked-whole}
 use Rattle.state.specs.declared.State.{State}
 use Rattle.positions.specs.Positions.{picked, reachedMask, sourcesIn, localOf}
 use Rattle.state.specs.Steps.{BeforeJoin, Joined}
-use Rattle.tally.specs.Tally.{sizesOf, powers, costIn, Countable}
+use Rattle.tally.specs.Tally.{sizesOf, powers, costIn, wholeCostIn, Countable}
 use Rattle.representation.specs.Represents.{Represents}
 use Rattle.representation.proofs.Sources.{sources-same, reached-source, stands, stands-in}
 use Rattle.representation.proofs.Joining.{size-most, joinable, before-join, represents-join}
@@ -47,19 +48,28 @@ sizes-gathered size cs (s ∷ ss) f =
     let e = f s (member-head s ss) .0 in
     let l = length-append (membersOf cs s) (gathered cs ss) in omega arith
 
-cost-from : (size : List ℕ) (cs : List (List ℕ)) (grown : ℕ) (sum : Float) (ss : List ℕ) → SizesAgree size cs ss → costIn size grown sum ss ≡ costFrom cs grown sum ss
-cost-from size cs grown sum [] f = refl
+-- the joining cost, as a float and as a whole number
+cost-from : (size : List ℕ) (cs : List (List ℕ)) (grown : ℕ) (sum : Float) (ss : List ℕ) → SizesAgree size cs ss
+    → (costIn size grown sum ss ≡ costFrom cs grown sum ss) × (wholeCostIn size grown ss ≡ wholeCostFrom cs grown ss)
+cost-from size cs grown sum [] f = (refl, refl)
 cost-from size cs grown sum (s ∷ ss) f =
-    ap (λ (n : ℕ). costIn size (grown + n) (add binary64 sum (mul binary64 twoF (exp2 (grown + n)))) ss) (f s (member-head s ss) .0)
-    ∙ cost-from size cs (grown + sizeOf cs s) (add binary64 sum (mul binary64 twoF (exp2 (grown + sizeOf cs s)))) ss (λ c m. f c (member-tail c s ss m))
+    let e = f s (member-head s ss) .0 in
+    let rest = cost-from size cs (grown + sizeOf cs s) (add binary64 sum (mul binary64 twoF (exp2 (grown + sizeOf cs s)))) ss (λ c m. f c (member-tail c s ss m)) in (
+      ap (λ (n : ℕ). costIn size (grown + n) (add binary64 sum (mul binary64 twoF (exp2 (grown + n)))) ss) e ∙ rest .0,
+      ap (λ (n : ℕ). 2 * 2 ^ (grown + n) + wholeCostIn size (grown + n) ss) e ∙ ap (λ (n : ℕ). 2 * 2 ^ (grown + sizeOf cs s) + n) (rest .1),
+    )
 
 pub cost-is : (size : List ℕ) (cs : List (List ℕ)) (ss : List ℕ) → SizesAgree size cs ss → 0 < length ss
-    → costIn size (getD size (getD ss 0 0) 0) (fin false 0 (pos 0)) (drop 1 ss) ≡ joiningCost cs ss
-unfolding joiningCost
+    → (costIn size (getD size (getD ss 0 0) 0) (fin false 0 (pos 0)) (drop 1 ss) ≡ joiningCost cs ss)
+    × (wholeCostIn size (getD size (getD ss 0 0) 0) (drop 1 ss) ≡ wholeJoiningCost cs ss)
+unfolding joiningCost wholeJoiningCost
 cost-is size cs [] f some = absurd (omega arith)
 cost-is size cs (t ∷ others) f some =
-    ap (λ (n : ℕ). costIn size n (fin false 0 (pos 0)) others) (f t (member-head t others) .0)
-    ∙ cost-from size cs (sizeOf cs t) (fin false 0 (pos 0)) others (λ c m. f c (member-tail c t others m))
+    let e = f t (member-head t others) .0 in
+    let rest = cost-from size cs (sizeOf cs t) (fin false 0 (pos 0)) others (λ c m. f c (member-tail c t others m)) in (
+      ap (λ (n : ℕ). costIn size n (fin false 0 (pos 0)) others) e ∙ rest .0,
+      ap (λ (n : ℕ). wholeCostIn size n others) e ∙ rest .1,
+    )
 
 -- a list with a member, taken apart
 pub split : (xs : List ℕ) → 0 < length xs → (t : ℕ) × (others : List ℕ) × (xs ≡ t ∷ others)

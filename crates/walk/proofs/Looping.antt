@@ -425,9 +425,9 @@ module _ {limit k : ℕ} {ws : List ℕ} {n i : ℕ} {o : List ℕ} {s : State} 
       same-state : u ≡ s
       same-state = unjoined u no-sources m
 
-      pub promote-asks : PromotionFits (u .count) i t (c .steps) (c .sizes) (c .promotions)
+      pub promote-asks : PromotionFits (u .count) (s .width) i t (c .steps) (c .sizes) (c .promotions)
       promote-asks =
-          subst (λ (v : State). PromotionFits (v .count) i t (c .steps) (c .sizes) (c .promotions)) (sym same-state)
+          subst (λ (v : State). PromotionFits (v .count) (s .width) i t (c .steps) (c .sizes) (c .promotions)) (sym same-state)
           (T.promotion-fits limit k ws b (lo .ok) i next (lo .w) s t c (lo .at) (lo .long) promotion-now)
 
       pub promoted-asks : (u .width < 512) × (u .count < 512)

@@ -27,6 +27,7 @@ use Rattle.definition.proofs.Counting.{same-or-not, length-removeAt}
 use Rattle.definition.proofs.Steps.{cond-yes, cond-no}
 use Rattle.definition.proofs.Growth.{rowCount, length-concat}
 use Rattle.definition.proofs.Tracking.{Tracked, tracked-here, target-below, target-members, join-length, join-peak-is, measurement-keeps}
+use Rattle.definition.proofs.WholeWorks.{reached-within}
 use Rattle.definition.proofs.Room.{JoinKept, join-kept, widthOf, Enough, enough}
 use Rattle.state.specs.declared.State.{State}
 use Rattle.tally.specs.declared.Tally.{Tally}
@@ -34,7 +35,7 @@ use Rattle.tally.specs.declared.Joining.{Joining}
 use Rattle.positions.specs.Positions.{localOf}
 use Rattle.state.specs.Steps.{BeforeJoin, promoted, BeforeRemoval, Removed}
 use Rattle.tally.specs.Tally.{powers, powerLeft, joiningOf, Countable, JoinFits, ignoredTally, joinedTally, rotatedTally, promotedTally, measuredTally}
-use Rattle.tally.proofs.Sums.{left-below}
+use Rattle.tally.proofs.Sums.{left-below, kept-sum, kept-joined}
 use Rattle.outputs.specs.Buffers.{patch}
 use Rattle.representation.specs.Represents.{Represents}
 use Rattle.representation.proofs.Moving.{represents-promotion, before-removal, represents-removal}
@@ -62,8 +63,19 @@ power-left : (m : List ℕ) (size : ℕ) → suc (length m) ≡ size → amplitu
 power-left [] size e = sym (cond-yes (leb size 1) 0 _ (le-leb size 1 (omega arith)))
 power-left (a ∷ m) size e = ap (λ (n : ℕ). 2 ^ n) (omega arith) ∙ sym (cond-no (leb size 1) 0 (2 ^ (size - 1)) (lt-leb size 1 (omega arith)))
 
+-- nothing added
+no-more : (n : ℕ) → n ≡ n + 0
+no-more n = omega arith
+
 module _ (limit k : ℕ) (ws : List ℕ) (b : Buffers) (ok : Walkable k ws b) (i : ℕ) (next : i < length ws / 8) (w : Walk) (s : State) (t : Tally) (c : Buffers)
     (at : Reached limit k (instructionsOf ws) i w s t c) (long : SameLengths b c) where
+  -- the width is not above the widest
+  within : length (w .order) ≤ w .whole .widest
+  within = reached-within k (at .run)
+
+  no-wider : t .widest ≡ max (w .whole .widest) (length (w .order))
+  no-wider = let m = at .sums .widest in let h = within in omega arith
+
   abbrev now : Instruction
   now = getD (instructionsOf ws) i DormantBranch
 
@@ -154,9 +166,11 @@ module _ (limit k : ℕ) (ws : List ℕ) (b : Buffers) (ok : Walkable k ws b) (i
     unfolding joiningOf
     join-count = refl
 
-    join-cost : join .cost ≡ joiningCost (w .components) (j .sources)
-    unfolding joiningOf
-    join-cost = J.cost-is (s .size) (w .components) (j .sources) (J.agree w roll tr s (at .rep) few x z active narrow) (J.some w roll tr s (at .rep) few x z active narrow)
+    costs : (join .cost ≡ joiningCost (w .components) (j .sources)) × (join .«whole_cost» ≡ j .cost % 2 ^ 64)
+    unfolding joiningOf joinOf
+    costs =
+        let e = J.cost-is (s .size) (w .components) (j .sources) (J.agree w roll tr s (at .rep) few x z active narrow) (J.some w roll tr s (at .rep) few x z active narrow) in
+        (e .0, ap (λ (n : ℕ). n % 2 ^ 64) (e .1))
 
     join-freed : join .freed ≡ powers (s .size) (j .sources)
     unfolding joiningOf
@@ -236,7 +250,10 @@ module _ (limit k : ℕ) (ws : List ℕ) (b : Buffers) (ok : Walkable k ws b) (i
 
       work-joined : add binary64 (t .work) (join .cost) ≡ j .work
       unfolding joinOf
-      work-joined = ap₂ (add binary64) (at .sums .work) join-cost
+      work-joined = ap₂ (add binary64) (at .sums .work) (costs .0)
+
+      whole-joined : (more : ℕ) → ((t .«whole_work» + join .«whole_cost») % 2 ^ 64 + more) % 2 ^ 64 ≡ (w .whole .component + (j .cost + more)) % 2 ^ 64
+      whole-joined more = kept-joined (t .«whole_work») (w .whole .component) (join .«whole_cost») (j .cost) more (at .sums .whole-work) (costs .1)
 
       peak-joined : max (t .peak) (t .live - join .freed + 2 ^ join .size) ≡ j .peak
       peak-joined = ap₂ max (at .sums .peak) live-joined ∙ sym (join-peak-is x z w)
@@ -282,6 +299,9 @@ module _ (limit k : ℕ) (ws : List ℕ) (b : Buffers) (ok : Walkable k ws b) (i
               sums = subst (λ (a : Tally). Tallied a (rotationStep w j q)) (sym sums) (record {
                 dense = ap₂ (λ (a : Float) (n : ℕ). add binary64 a (exp2 n)) (at .sums .dense) (at .rep .width);
                 work = ap₂ (λ (a : Float) (n : ℕ). add binary64 a (add binary64 (exp2 n) (fin false 1 (pos 5)))) work-joined join-size;
+                whole-dense = ap (λ (n : ℕ). (t .«whole_dense» + 2 ^ n) % 2 ^ 64) (at .rep .width) ∙ kept-sum (t .«whole_dense») (w .whole .dense) (2 ^ length (w .order)) (at .sums .whole-dense);
+                whole-work = ap (λ (n : ℕ). ((t .«whole_work» + join .«whole_cost») % 2 ^ 64 + (2 ^ n + 32)) % 2 ^ 64) join-size ∙ whole-joined (2 ^ length (j .members) + 32);
+                widest = no-wider;
                 live = live-joined;
                 peak = peak-joined;
                 merges = merges-joined;
@@ -434,6 +454,9 @@ module _ (limit k : ℕ) (ws : List ℕ) (b : Buffers) (ok : Walkable k ws b) (i
                 sums = subst (λ (a : Tally). Tallied a (measurementStep w j pivot q)) (sym sums) (record {
                   dense = ap₂ (λ (a : Float) (n : ℕ). add binary64 a (mul binary64 twoF (exp2 n))) (at .sums .dense) (at .rep .width);
                   work = ap₂ (λ (a : Float) (n : ℕ). add binary64 a (add binary64 (mul binary64 twoF (exp2 n)) (fin false 1 (pos 5)))) work-joined join-size;
+                  whole-dense = ap (λ (n : ℕ). (t .«whole_dense» + 2 * 2 ^ n) % 2 ^ 64) (at .rep .width) ∙ kept-sum (t .«whole_dense») (w .whole .dense) (2 * 2 ^ length (w .order)) (at .sums .whole-dense);
+                  whole-work = ap (λ (n : ℕ). ((t .«whole_work» + join .«whole_cost») % 2 ^ 64 + (2 * 2 ^ n + 32)) % 2 ^ 64) join-size ∙ whole-joined (2 * 2 ^ length (j .members) + 32);
+                  widest = let e = no-wider in let h = within in let l = length-removeAt pivot (w .order) (passed .0) in omega arith;
                   live = live-left;
                   peak = peak-joined ∙ peak-left;
                   merges = merges-joined;
@@ -484,6 +507,9 @@ module _ (limit k : ℕ) (ws : List ℕ) (b : Buffers) (ok : Walkable k ws b) (i
         sums = record {
           dense = at .sums .dense;
           work = at .sums .work;
+          whole-dense = at .sums .whole-dense ∙ ap (λ (n : ℕ). n % 2 ^ 64) (no-more (w .whole .dense));
+          whole-work = at .sums .whole-work ∙ ap (λ (n : ℕ). n % 2 ^ 64) (no-more (w .whole .component));
+          widest = no-wider;
           live = at .sums .live;
           peak = at .sums .peak;
           merges = at .sums .merges;
@@ -514,6 +540,9 @@ module _ (limit k : ℕ) (ws : List ℕ) (b : Buffers) (ok : Walkable k ws b) (i
         sums = record {
           dense = ap (λ (a : Float). add binary64 a (exp2 0)) (at .sums .dense);
           work = at .sums .work;
+          whole-dense = kept-sum (t .«whole_dense») (w .whole .dense) 1 (at .sums .whole-dense);
+          whole-work = at .sums .whole-work ∙ ap (λ (n : ℕ). n % 2 ^ 64) (no-more (w .whole .component));
+          widest = no-wider;
           live = at .sums .live;
           peak = at .sums .peak;
           merges = at .sums .merges;
@@ -542,8 +571,9 @@ module _ (limit k : ℕ) (ws : List ℕ) (b : Buffers) (ok : Walkable k ws b) (i
     pub state-room : (s .width < 512) × (s .count < 512)
     state-room = (let e = at .rep .width in let f = active-fewer in omega arith, let e = at .rep .count in let f = fewer in omega arith)
 
-    pub promotion-fits : PromotionFits (s .count) i t (c .steps) (c .sizes) (c .promotions)
+    pub promotion-fits : PromotionFits (s .count) (s .width) i t (c .steps) (c .sizes) (c .promotions)
     promotion-fits = record {
+      narrow = let e = at .rep .width in let f = active-fewer in omega arith;
       live = let e = at .sums .live in let l = live in omega arith;
       quantum = quantum-room;
       row-room = let e = room .promotions in let l = long .promotions in let r = rows in let m = at .sums .promotions in omega arith;
@@ -570,6 +600,9 @@ module _ (limit k : ℕ) (ws : List ℕ) (b : Buffers) (ok : Walkable k ws b) (i
           sums = subst (λ (a : Tally). Tallied a (promotionStep w)) (sym sums) (record {
             dense = ap₂ (λ (a : Float) (n : ℕ). add binary64 a (mul binary64 twoF (exp2 n))) (at .sums .dense) (at .rep .width);
             work = ap (λ (a : Float). add binary64 a (fin false 17 (pos 1))) (at .sums .work);
+            whole-dense = ap (λ (n : ℕ). (t .«whole_dense» + 2 * 2 ^ n) % 2 ^ 64) (at .rep .width) ∙ kept-sum (t .«whole_dense») (w .whole .dense) (2 * 2 ^ length (w .order)) (at .sums .whole-dense);
+            whole-work = kept-sum (t .«whole_work») (w .whole .component) 34 (at .sums .whole-work);
+            widest = let e = at .rep .width in let m = at .sums .widest in let f = length-append (w .order) (new ∷ []) in omega arith;
             live = let e = live-promotion (w .components) new in let m = at .sums .live in omega arith;
             peak = let e = live-promotion (w .components) new in let m = at .sums .live in ap₂ max (at .sums .peak) (omega arith);
             merges = at .sums .merges;

@@ -1,5 +1,5 @@
 -- What the contract of `walk` says: it stops where the definition's walk stops, or leaves in front of each buffer what the definition's walk has written.
-use Prim.Native.Nat.{ℕ, _/_, _≤_}
+use Prim.Native.Nat.{ℕ, _/_, _%_, _^_, _≤_}
 use mathlib.Core.Path.{_≡_}
 use mathlib.Core.List.{List}
 use mathlib.Core.Bool.{false}
@@ -50,10 +50,13 @@ pub record SameLengths (before after : Buffers) : Type 0 where
 abbrev pub Begins : List ℕ → List ℕ → Type 0
 Begins words buffer = take (length words) buffer ≡ words
 
--- the sums and counts are those of the walk's state
+-- the sums and counts are those of the walk's state; the whole works modulo 2 ^ 64
 pub record Tallied (t : Tally) (w : Walk) : Type 0 where
   pub dense : t .dense ≡ w .denseWork
   pub work : t .work ≡ w .componentWork
+  pub whole-dense : t .«whole_dense» ≡ w .whole .dense % 2 ^ 64
+  pub whole-work : t .«whole_work» ≡ w .whole .component % 2 ^ 64
+  pub widest : t .widest ≡ w .whole .widest
   pub live : t .live ≡ liveDimension (w .components)
   pub peak : t .peak ≡ w .peak
   pub merges : t .merges ≡ length (w .written .merges)

@@ -4,12 +4,13 @@ use crate::component_plan::ActiveComponentPlan;
 use crate::input::{Program, Record};
 use crate::refusals::{self, Refusal};
 use crate::walk::{self, Walked};
+use crate::whole::{self, WholeWorks};
 
 pub enum Answer {
     Refused(Refusal),
     /// The rotation whose sine or cosine is not Rust's own.
     Incomparable(usize),
-    Plan(ActiveComponentPlan),
+    Plan(ActiveComponentPlan, WholeWorks),
 }
 
 /// The Rust's answer, or 01's own refusal where it comes first.
@@ -18,18 +19,24 @@ pub fn answer(program: &Program) -> Result<Answer, String> {
         return Ok(Answer::Refused(refusal));
     }
     if refusals::is_left_unread(program) {
-        return walk::plan_unread(program).map(Answer::Plan);
+        return planned(program, walk::plan_unread(program)?);
     }
     if let Some(refusal) = refusals::before_the_walk(program) {
         return Ok(Answer::Refused(refusal));
     }
     let records = program.records();
     let walked = walk::walk(program, &records)?;
-    Ok(compared(walked, &records))
+    compared(program, walked, &records)
+}
+
+/// The Rust's plan with its whole works.
+fn planned(program: &Program, plan: ActiveComponentPlan) -> Result<Answer, String> {
+    let whole = whole::of(program, &plan)?;
+    Ok(Answer::Plan(plan, whole))
 }
 
 /// The Rust's answer, unless a record that the walk reached may not be compared.
-fn compared(walked: Walked, records: &[Record]) -> Answer {
+fn compared(program: &Program, walked: Walked, records: &[Record]) -> Result<Answer, String> {
     let reached = match &walked {
         Walked::Plan(_) => records,
         Walked::Stopped(refusal) => &records[..=refusal.index],
@@ -38,8 +45,8 @@ fn compared(walked: Walked, records: &[Record]) -> Answer {
         reached.iter().position(|record| !record.is_comparable()),
         walked,
     ) {
-        (Some(index), _) => Answer::Incomparable(index),
-        (None, Walked::Plan(plan)) => Answer::Plan(plan),
-        (None, Walked::Stopped(refusal)) => Answer::Refused(refusal),
+        (Some(index), _) => Ok(Answer::Incomparable(index)),
+        (None, Walked::Plan(plan)) => planned(program, plan),
+        (None, Walked::Stopped(refusal)) => Ok(Answer::Refused(refusal)),
     }
 }

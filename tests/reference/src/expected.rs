@@ -4,8 +4,9 @@
 use crate::answer::Answer;
 use crate::rows::{self, Word};
 
-/// Words of a whole result: the refusal's record, then the eight scalar fields.
-pub const RESULT_WORDS: usize = 9;
+/// Words of a whole result: the refusal's record, then the eight scalar fields, then the five
+/// words of the whole works.
+pub const RESULT_WORDS: usize = 14;
 
 /// What a call returns and writes. Words behind the used ones are zero.
 #[derive(Clone, Debug, PartialEq, Eq)]
@@ -34,8 +35,8 @@ impl Expected {
                     outputs: Default::default(),
                 }))
             }
-            Answer::Plan(plan) => {
-                result[1..].copy_from_slice(&rows::scalars(plan).map(|word| word.bits()));
+            Answer::Plan(plan, whole) => {
+                result[1..].copy_from_slice(&bits(rows::fields(plan, whole)));
                 Ok(Some(Self {
                     number: 0,
                     result,

@@ -2,8 +2,8 @@
 //! and complete lists over small alphabets.
 //!
 //! The random ones reach every refusal of docs/01-scope.md, 1 to 20, and plans with all six
-//! kinds of record, selected and not. Rotations carry Rust's own sines and cosines, but for
-//! those that are refused for theirs.
+//! kinds of record, selected and not, of each mark of the whole works. Rotations carry Rust's
+//! own sines and cosines, but for those that are refused for theirs.
 
 mod damage;
 mod draft;

@@ -73,6 +73,15 @@ impl Record {
         self.last[1]
     }
 
+    /// The active coordinates after the record, if it fits where there are so many before it.
+    pub fn width_after(&self, width: u64) -> u64 {
+        match (self.kind, self.flag()) {
+            (1, _) => width + 1,
+            (4, 0) => width.saturating_sub(1),
+            _ => width,
+        }
+    }
+
     /// The words that Rust's own sine and cosine of the angle have.
     pub fn own_sine_and_cosine(&self) -> [u64; 2] {
         [self.angle().sin().to_bits(), self.angle().cos().to_bits()]

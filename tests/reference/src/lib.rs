@@ -16,3 +16,4 @@ pub mod rows;
 pub mod stored;
 pub mod vectors;
 pub mod walk;
+pub mod whole;

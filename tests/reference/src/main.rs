@@ -13,10 +13,12 @@
 //!
 //!     refused NUMBER INDEX
 //!     incomparable INDEX
-//!     plan SELECTED INITIAL_COMPONENTS COMPONENT_COUNT DENSE_WORK COMPONENT_WORK DENSE_PEAK PEAK ALLOCATED
+//!     plan SELECTED INITIAL_COMPONENTS COMPONENT_COUNT DENSE_WORK COMPONENT_WORK DENSE_PEAK PEAK ALLOCATED MARK DENSE COMPONENT QUOTIENT REMAINDER
 //!
 //! and after `plan` the used words of the seven outputs, a line each, as `steps ...`
 //! to `groups ...`. Floats stand as their bits in hexadecimal, all else in decimal.
+//! From MARK on stand the whole works: 0 for a program that is too wide for them, 1 for
+//! works without a quotient, 2 for works with one; what a mark does not give is 0.
 //! `incomparable` names the first rotation that the walk reached (the record where it
 //! stops counts too) whose sine or cosine word is not Rust's own for its angle.
 //!

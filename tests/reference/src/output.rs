@@ -4,6 +4,7 @@ use crate::answer::Answer;
 use crate::component_plan::ActiveComponentPlan;
 use crate::input::BUFFERS;
 use crate::rows::{self, Word};
+use crate::whole::WholeWorks;
 
 /// A name and its words.
 fn line<'a>(name: &str, words: impl IntoIterator<Item = &'a Word>) -> String {
@@ -14,11 +15,11 @@ fn line<'a>(name: &str, words: impl IntoIterator<Item = &'a Word>) -> String {
         .join(" ")
 }
 
-/// The scalar fields and the seven outputs, a line each.
-fn plan_text(plan: &ActiveComponentPlan) -> Result<String, String> {
+/// The scalar fields with the whole works, and the seven outputs, a line each.
+fn plan_text(plan: &ActiveComponentPlan, whole: &WholeWorks) -> Result<String, String> {
     let outputs = rows::outputs(plan)?;
     let named = BUFFERS.iter().zip(&outputs);
-    let lines = std::iter::once(line("plan", &rows::scalars(plan)))
+    let lines = std::iter::once(line("plan", &rows::fields(plan, whole)))
         .chain(named.map(|(name, words)| line(name, words)));
     Ok(lines.collect::<Vec<_>>().join("\n"))
 }
@@ -28,6 +29,6 @@ pub fn text(answer: &Answer) -> Result<String, String> {
     match answer {
         Answer::Refused(refusal) => Ok(format!("refused {} {}", refusal.number, refusal.index)),
         Answer::Incomparable(index) => Ok(format!("incomparable {index}")),
-        Answer::Plan(plan) => plan_text(plan),
+        Answer::Plan(plan, whole) => plan_text(plan, whole),
     }
 }

@@ -1,10 +1,21 @@
-//! The final groups, which a Rust plan does not list: its own steps, rows and merge list
-//! played once more over plain lists of members.
+//! A Rust plan's own steps, rows and merge list played once more over plain lists of members.
+//! This shows what the plan does not list: the final groups, and the sizes during each join.
 
 use crate::component_plan::{ActiveComponentPlan, ActiveComponentStepKind, ActiveComponentStepRef};
 
 /// Ordered members by component number; empty once joined away or measured out.
 type Components = Vec<Vec<usize>>;
+
+/// The sizes of a row's component during its join: the target's own, then the size after each
+/// other source. A step without sources has none.
+pub type Sizes = Vec<usize>;
+
+/// A plan played to its end.
+pub struct Played {
+    components: Components,
+    /// One for each step.
+    pub sizes: Vec<Sizes>,
+}
 
 /// The part of the merge list that a row names.
 fn sources(plan: &ActiveComponentPlan, offset: usize, count: usize) -> Result<&[usize], String> {
@@ -34,10 +45,12 @@ fn join(
     sources: &[usize],
     component: usize,
     width: usize,
-) -> Result<(), String> {
+) -> Result<Sizes, String> {
     let mut members = Vec::new();
+    let mut sizes = Vec::new();
     for &source in sources {
         members.extend(taken(components, source)?);
+        sizes.push(members.len());
     }
     if sources.first() != Some(&component) || members.len() != width {
         return Err(format!(
@@ -45,7 +58,7 @@ fn join(
         ));
     }
     components[component] = members;
-    Ok(())
+    Ok(sizes)
 }
 
 /// Opens the next component, with the one member of its own number.
@@ -66,7 +79,7 @@ fn join_row(
     component: usize,
     (offset, count): (usize, usize),
     width: usize,
-) -> Result<(), String> {
+) -> Result<Sizes, String> {
     let sources = sources(plan, offset, count)?;
     join(components, sources, component, width)
 }
@@ -76,7 +89,7 @@ fn rotate(
     plan: &ActiveComponentPlan,
     components: &mut Components,
     payload: usize,
-) -> Result<(), String> {
+) -> Result<Sizes, String> {
     let row = plan
         .rotations
         .get(payload)
@@ -96,13 +109,13 @@ fn measure(
     plan: &ActiveComponentPlan,
     components: &mut Components,
     payload: usize,
-) -> Result<(), String> {
+) -> Result<Sizes, String> {
     let row = plan
         .measurements
         .get(payload)
         .ok_or("a step names no measurement row")?;
     let merge = (row.merge_offset, row.merge_count);
-    join_row(
+    let sizes = join_row(
         plan,
         components,
         row.component,
@@ -118,7 +131,7 @@ fn measure(
     }
     members.remove(row.kernel.pivot);
     if members.is_empty() == row.deactivate_after {
-        Ok(())
+        Ok(sizes)
     } else {
         Err("a deactivation does not fit".to_owned())
     }
@@ -129,9 +142,11 @@ fn play(
     plan: &ActiveComponentPlan,
     components: &mut Components,
     step: &ActiveComponentStepRef,
-) -> Result<(), String> {
+) -> Result<Sizes, String> {
     match step.kind {
-        ActiveComponentStepKind::None | ActiveComponentStepKind::IgnoredGlobalPhase => Ok(()),
+        ActiveComponentStepKind::None | ActiveComponentStepKind::IgnoredGlobalPhase => {
+            Ok(Vec::new())
+        }
         ActiveComponentStepKind::Rotation => rotate(plan, components, step.payload),
         ActiveComponentStepKind::Measurement => measure(plan, components, step.payload),
         ActiveComponentStepKind::Promotion => {
@@ -139,21 +154,28 @@ fn play(
                 .promotions
                 .get(step.payload)
                 .ok_or("a step names no promotion row")?;
-            promote(components, row.component)
+            promote(components, row.component)?;
+            Ok(Vec::new())
         }
     }
 }
 
-/// The live components in the end, by ascending number. A plan made of unread records has none.
-pub fn groups(plan: &ActiveComponentPlan) -> Result<Vec<Vec<usize>>, String> {
-    if plan.component_count == 0 {
-        return Ok(Vec::new());
+/// The components at the start. A plan made of unread records has none, whatever it counts.
+fn start(plan: &ActiveComponentPlan) -> Components {
+    match plan.component_count {
+        0 => Vec::new(),
+        _ => (0..plan.initial_components)
+            .map(|number| vec![number])
+            .collect(),
     }
-    let mut components: Components = (0..plan.initial_components)
-        .map(|number| vec![number])
-        .collect();
+}
+
+/// Plays all steps.
+pub fn played(plan: &ActiveComponentPlan) -> Result<Played, String> {
+    let mut components = start(plan);
+    let mut sizes = Vec::new();
     for step in &plan.instruction_steps {
-        play(plan, &mut components, step)?;
+        sizes.push(play(plan, &mut components, step)?);
     }
     if components.len() != plan.component_count {
         return Err(format!(
@@ -162,8 +184,12 @@ pub fn groups(plan: &ActiveComponentPlan) -> Result<Vec<Vec<usize>>, String> {
             plan.component_count
         ));
     }
-    Ok(components
-        .into_iter()
-        .filter(|members| !members.is_empty())
-        .collect())
+    Ok(Played { components, sizes })
+}
+
+/// The live components in the end, by ascending number.
+pub fn groups(plan: &ActiveComponentPlan) -> Result<Vec<Vec<usize>>, String> {
+    let mut components = played(plan)?.components;
+    components.retain(|members| !members.is_empty());
+    Ok(components)
 }

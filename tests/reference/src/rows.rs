@@ -1,5 +1,5 @@
-//! A plan's fields and rows in 01's formats: the words of the seven outputs and the scalar
-//! fields, each a number or a float.
+//! A plan's fields and rows in 01's formats: the words of the seven outputs, the scalar fields
+//! and the whole works, each a number or a float.
 
 use std::fmt;
 
@@ -12,6 +12,7 @@ use crate::component_plan::{
     ActiveComponentStepKind, ActiveComponentStepRef,
 };
 use crate::replay::groups;
+use crate::whole::WholeWorks;
 
 /// One output word: a number, or a float that stands as its bits.
 pub enum Word {
@@ -55,7 +56,7 @@ fn pair(value: Complex64) -> [Word; 2] {
 }
 
 /// The eight scalar fields, in 01's order.
-pub fn scalars(plan: &ActiveComponentPlan) -> [Word; 8] {
+fn scalars(plan: &ActiveComponentPlan) -> [Word; 8] {
     [
         flag(plan.selected),
         number(plan.initial_components),
@@ -66,6 +67,12 @@ pub fn scalars(plan: &ActiveComponentPlan) -> [Word; 8] {
         number(plan.component_peak_live_dimension),
         number(plan.component_allocated_dimension),
     ]
+}
+
+/// The words of a result behind the first: the eight scalar fields, then the whole works.
+pub fn fields(plan: &ActiveComponentPlan, whole: &WholeWorks) -> Vec<Word> {
+    let whole = whole.words().map(Number);
+    scalars(plan).into_iter().chain(whole).collect()
 }
 
 /// Kind and payload.

@@ -16,13 +16,18 @@ fn programs_of(text: &str) -> Result<Vec<Program>, String> {
         .collect()
 }
 
-/// 01's own circuits.
+/// The programs of some texts.
+fn programs_of_all(texts: &[&str]) -> Result<Vec<Program>, String> {
+    let all: Result<Vec<_>, String> = texts.iter().map(|text| programs_of(text)).collect();
+    Ok(all?.concat())
+}
+
+/// 01's own circuits and the further ones.
 pub fn circuits() -> Result<Vec<Program>, String> {
-    programs_of(TEXTS[0])
+    programs_of_all(&TEXTS[..2])
 }
 
 /// All stored programs.
 pub fn programs() -> Result<Vec<Program>, String> {
-    let all: Result<Vec<_>, String> = TEXTS.iter().map(|text| programs_of(text)).collect();
-    Ok(all?.concat())
+    programs_of_all(&TEXTS)
 }

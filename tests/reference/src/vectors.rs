@@ -8,7 +8,7 @@
 //!     the seven buffer lengths, in words
 //!     the record words
 //!     the answer's number, 0 for a plan
-//!     the nine words of the result
+//!     the fourteen words of the result
 //!     seven times: the number of used words, then these; the buffer's other words are zero
 
 use crate::answer::answer;
@@ -24,8 +24,16 @@ const MOST_RECORDS: usize = 24;
 const MOST_USED: usize = 600;
 /// How many random programs of each refusal are taken.
 const OF_EACH_REFUSAL: usize = 9;
-/// How many random programs with a selected plan are taken, and how many with another.
-const OF_EACH_PLAN: usize = 70;
+/// How many random programs are taken with a plan of each sort, which `place` tells apart.
+const OF_EACH_PLAN: [usize; 6] = [
+    18, // too wide for whole works, not selected
+    18, // the same, selected
+    7,  // no quotient, and no dense work
+    9,  // no quotient, some dense work
+    44, // a quotient, not selected
+    44, // the same, selected
+];
+const REFUSALS: usize = 20;
 const SEED: u64 = 1;
 
 /// One vector's words.
@@ -50,12 +58,20 @@ fn is_short(program: &Program, expected: &Expected) -> bool {
         && expected.outputs.iter().map(Vec::len).sum::<usize>() <= MOST_USED
 }
 
-/// What is still to be taken: refusals by number, plans that are not selected at place 0,
-/// and selected ones behind the refusals.
-fn wanted() -> [usize; 22] {
-    let mut wanted = [OF_EACH_REFUSAL; 22];
-    (wanted[0], wanted[21]) = (OF_EACH_PLAN, OF_EACH_PLAN);
-    wanted
+/// What is still to be taken: refusals in the order of their numbers, then plans by sort.
+fn wanted() -> Vec<usize> {
+    [&[OF_EACH_REFUSAL; REFUSALS][..], &OF_EACH_PLAN].concat()
+}
+
+/// The place of an answer among what is wanted.
+fn place(expected: &Expected) -> usize {
+    let [_, selected, .., mark, dense, _, _, _] = expected.result;
+    match (expected.number, mark) {
+        (0, 0) => REFUSALS + selected as usize,
+        (0, 1) => REFUSALS + 2 + usize::from(dense > 0),
+        (0, _) => REFUSALS + 4 + selected as usize,
+        (number, _) => number as usize - 1,
+    }
 }
 
 /// Random programs with their answers, until all that is wanted is there.
@@ -70,10 +86,7 @@ fn random_vectors() -> Result<Vec<Vec<u64>>, String> {
         let Some(expected) = Expected::of(&answer(&program)?)? else {
             return Err("a random program is incomparable".to_owned());
         };
-        let place = match (expected.number, expected.result[1]) {
-            (0, 1) => 21,
-            (number, _) => number as usize,
-        };
+        let place = place(&expected);
         if is_short(&program, &expected) && wanted[place] > 0 {
             wanted[place] -= 1;
             vectors.push(words_of(&program, &expected));
@@ -82,7 +95,7 @@ fn random_vectors() -> Result<Vec<Vec<u64>>, String> {
     Ok(vectors)
 }
 
-/// The whole list: 01's circuits, then random programs.
+/// The whole list: 01's circuits and the further ones, then random programs.
 pub fn words() -> Result<Vec<u64>, String> {
     let mut vectors = Vec::new();
     for program in stored::circuits()? {

@@ -18,7 +18,7 @@ use Rattle.definition.proofs.Steps.{Run, run-of-walk}
 use Rattle.walk.specs.Walking.{Buffers, lengthsOf, Walkable, Ended, SameLengths}
 use Rattle.lent.specs.Lent.{Held, lentNumber}
 use Rattle.definition.proofs.Sizes.{reached-longest}
-use Rattle.component_plan.proofs.Filled.{front-fits, front-of-padded, used-fit, size-words, walk-held}
+use Rattle.component_plan.proofs.Filled.{front-fits, front-of-padded, used-fit, whole-same, size-words, walk-held}
 use Rattle.component_plan.proofs.Refusals.{lent-refused, lent-words, lent-few, lent-room, lent-initial, lent-passed, walk-stops, walk-finishes, read-refused, read-planned, plan-same}
 use Rattle.component_plan.proofs.plan_read.Statement.{statement}
 use Rattle.component_plan.proofs.plan_read.Tie as tie
@@ -278,11 +278,15 @@ returns-4 c =
     let w = cleared .before .before .before .before .before .before .before .before .before in
     let walked = w .before .before .before .before .before .before .before .before .before .before .before .before .before .before .before .before in
     let s = walk-start walked in
+    let n = w .before .before .before .before .before .before .before .before .before .before .before .before .before .before .before .before .before .before .before .before .before .before .before .before .before .before .before .before in
     let a = s .args in
     read-planned (a .limit) (a .head) (a .dense-peak) (words-of s) (before-of s) (cleared-of cleared) (planFrom (a .head .«initial_k») (a .dense-peak) (ended w .0)) _
     (read-walk (walked .before .before .before .before .before .before .before .before) ∙ ap (afterWalk (a .head .«initial_k») (a .dense-peak)) (ended w .1))
-    (plan-same (a .head .«initial_k») (a .dense-peak) (ended w .0) (w .walked2 .given .0 .0) (walked-of walked) (c .before .allocated .result) _ (ended w .2)
-    (c .before .allocated .ensures ∙ ap allocatedFor (sizes-front cleared)) (c .plan-of .ensures))
+    (plan-same (a .head .«initial_k») (a .dense-peak) (ended w .0) (w .walked2 .given .0 .0) (walked-of walked) (c .before .allocated .result) _ (c .plan-of .result) (ended w .2)
+    (c .before .allocated .ensures ∙ ap allocatedFor (sizes-front cleared))
+    (whole-same (a .head .«initial_k») (words-of s) (ended w .0) (run w) (w .walked2 .given .0 .0) (walked-of walked) (ended w .2)
+    (lent-few (a .limit) (a .head) (words-of s) (lengthsOf (before-of s)) (a .dense-peak) _ (lent n) (w .before .before .before .before .before .before .before .before .before .before .before .before .before .before .before .before .before .before .before .before .before .before .before .before .before .before .before .if1 .left)))
+    (c .plan-of .ensures))
     (held cleared)
 
 pub plan-read-spec : {M : Type 1} → statement M

@@ -1,5 +1,5 @@
-//! Whole programs that fit: short ones, long lives with large components, and those that are
-//! timed.
+//! Whole programs that fit: short ones, widths around 38, long lives with large components, and
+//! those that are timed.
 
 use super::draft::{Draft, MOST_RECORDS, Weights, low_bits};
 use super::random::Random;
@@ -9,7 +9,7 @@ use crate::input::Program;
 type Shape = (u64, fn(&mut Draft), u64, u64);
 
 /// How often each shape is made.
-const SHAPES: [Shape; 10] = [
+const SHAPES: [Shape; 12] = [
     (300, plain, 0, 12),
     (300, wide, 8, 50),
     (50, far, 0, 62),
@@ -20,6 +20,8 @@ const SHAPES: [Shape; 10] = [
     (25, up_and_down, 0, 62),
     (40, long, 0, 62),
     (60, scattered, 8, 62),
+    (160, around_38, 33, 40),
+    (40, ignored, 0, 0),
 ];
 
 /// The shapes whose programs have many records.
@@ -183,6 +185,33 @@ fn long(draft: &mut Draft) {
     while draft.count() < last {
         let wide = draft.width >= 62;
         draft.record(if wide { [4, 0, 4, 1] } else { weights });
+    }
+}
+
+/// Widths around 38, the greatest that has whole works: up by promotions to 37, 38, 39 or 40, down
+/// by measurements, and so again. Half of the programs keep blocks apart.
+fn around_38(draft: &mut Draft) {
+    let blocks = draft.random.pick(&[1, 1, 4, 12]);
+    draft.divide(blocks);
+    for _ in 0..draft.random.between(1, 3) {
+        let high = draft.random.pick(&[37, 38, 38, 38, 39, 39, 40]);
+        while draft.width < high {
+            draft.record([2, 3, 0, 1]);
+        }
+        let low = draft.random.between(34, 40);
+        while draft.width > low {
+            draft.record([2, 0, 3, 1]);
+        }
+    }
+    for _ in 0..draft.random.between(0, 3) {
+        draft.record([1, 0, 0, 1]);
+    }
+}
+
+/// Rotations of no coordinate, which cost the dense register alone, and records without effect.
+fn ignored(draft: &mut Draft) {
+    for _ in 0..draft.random.between(1, 20) {
+        draft.record([3, 0, 0, 1]);
     }
 }
 

@@ -2,7 +2,7 @@
 
 use super::draft::{MEASUREMENT, PROMOTION, ROTATION, floats};
 use super::edits::Words;
-use crate::input::Program;
+use crate::input::{Program, Record};
 
 /// How far masks, phases and pivots go.
 struct Limits {
@@ -53,15 +53,6 @@ fn alphabet(k: u64, limits: &Limits) -> Vec<Words> {
     records
 }
 
-/// The active coordinates after a record, if it fits.
-fn width_after(k: u64, record: &Words) -> u64 {
-    match record {
-        [PROMOTION, ..] => k + 1,
-        [MEASUREMENT, .., 0, _] => k.saturating_sub(1),
-        _ => k,
-    }
-}
-
 /// A program of these records, with buffers that are just long enough.
 pub(super) fn program(initial_k: u64, records: &[Words]) -> Program {
     Program {
@@ -82,7 +73,8 @@ pub fn small_programs() -> Vec<Program> {
             programs.push(program(initial_k, &[record]));
         }
         for first in alphabet(initial_k, &PAIRED) {
-            for second in alphabet(width_after(initial_k, &first), &PAIRED) {
+            let width = Record::from_words(&first).width_after(initial_k);
+            for second in alphabet(width, &PAIRED) {
                 programs.push(program(initial_k, &[first, second]));
             }
         }

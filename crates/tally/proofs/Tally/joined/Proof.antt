@@ -1,4 +1,4 @@
--- `tally::Tally::joined` meets its contract: each field is the definition's, by what `power` and `larger` ensure.
+-- `tally::Tally::joined` meets its contract: each field is the definition's, by what `power`, `larger` and the wrapping addition ensure.
 use Rattle.tally.specs.Tally.{joinedTally}
 use borrow.Author.Needs.{needs}
 use Rattle.tally.proofs.Tally.joined.Statement.{statement}
@@ -16,6 +16,9 @@ add-self c = search needs
 larger-requires : tie.Need-larger-requires
 larger-requires c κs = search needs
 
+wrapping-add-u64-requires : tie.Need-wrapping-add-u64-requires
+wrapping-add-u64-requires c κs = search needs
+
 add-self-2 : tie.Need-add-self-2
 add-self-2 c = search needs
 
@@ -26,11 +29,12 @@ returns : tie.Need-returns
 unfolding joinedTally
 returns c =
     simp (
-      c .before .before .before .before .before .larger .ensures,
-      c .before .before .before .before .before .before .power .ensures,
+      c .before .before .before .wrapping-add-u64 .ensures,
+      c .before .before .before .before .before .before .larger .ensures,
+      c .before .before .before .before .before .before .before .power .ensures,
     )
 
 pub joined-spec : {M : Type 1} → statement M
 joined-spec =
     tie.close
-    (tie.spec sub-self power-requires add-self larger-requires add-self-2 add-self-3 returns)
+    (tie.spec sub-self power-requires add-self larger-requires wrapping-add-u64-requires add-self-2 add-self-3 returns)

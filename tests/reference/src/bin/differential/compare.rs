@@ -138,8 +138,8 @@ impl Comparison {
         }
         self.tally.typed += 1;
         match (plan_encoded(&head(program), &program.words), answer) {
-            (Ok(ours), Answer::Plan(theirs)) => {
-                dropin::difference(&ours, theirs).or_else(|| self.methods(&ours, theirs))
+            (Ok(ours), Answer::Plan(theirs, whole)) => {
+                dropin::difference(&ours, theirs, *whole).or_else(|| self.methods(&ours, theirs))
             }
             (Err(ours), Answer::Refused(theirs)) => {
                 let same = (ours.number(), ours.index) == (theirs.number, theirs.index);

@@ -12,6 +12,7 @@ use midvokt_reference::component_plan::{
 };
 use midvokt_reference::expected::Expected;
 use midvokt_reference::replay;
+use midvokt_reference::whole::WholeWorks;
 use num_complex::Complex64;
 
 /// A complex number of theirs.
@@ -128,11 +129,32 @@ pub fn plan(ours: &midvokt::ActiveComponentPlan) -> ActiveComponentPlan {
     }
 }
 
+/// Whole works of theirs.
+fn whole_works(ours: midvokt::WholeWorks) -> WholeWorks {
+    use midvokt::WholeWorks as Ours;
+    match ours {
+        Ours::TooWide => WholeWorks::TooWide,
+        Ours::WithoutQuotient { dense } => WholeWorks::WithoutQuotient { dense },
+        Ours::WithQuotient {
+            dense,
+            component,
+            quotient,
+            remainder,
+        } => WholeWorks::WithQuotient {
+            dense,
+            component,
+            quotient,
+            remainder,
+        },
+    }
+}
+
 /// What differs: a field by the Rust's own comparison, which takes both zeros as one, then
-/// the bits of all floats, then the groups.
+/// the groups, then the whole works, then the bits of all floats.
 pub fn difference(
     ours: &midvokt::ActiveComponentPlan,
     theirs: &ActiveComponentPlan,
+    whole: WholeWorks,
 ) -> Option<String> {
     let turned = plan(ours);
     if turned != *theirs {
@@ -141,7 +163,10 @@ pub fn difference(
     if replay::groups(theirs).as_ref() != Ok(&ours.groups) {
         return Some("the groups of the typed plan".to_owned());
     }
-    let words = |plan| Expected::of(&Answer::Plan(plan));
+    if whole_works(ours.whole_works) != whole {
+        return Some("the whole works of the typed plan".to_owned());
+    }
+    let words = |plan| Expected::of(&Answer::Plan(plan, whole));
     if words(turned) != words(theirs.clone()) {
         return Some("a float's bits in the typed plan".to_owned());
     }

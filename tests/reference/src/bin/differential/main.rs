@@ -4,7 +4,7 @@
 //! planned by the library in buffers of noise. Every word that a call returns and writes has
 //! to be the expected one, and words beside the lent ones have to stay. The typed plan of
 //! the crate `midvokt` is turned into the Rust's own and compared with it as well, and so are
-//! the defaults and methods of its kernels, and its complex numbers.
+//! its whole works, the defaults and methods of its kernels, and its complex numbers.
 //!
 //! Programs: the stored ones, all with up to two records over small widths, those with
 //! several faults at once, and random ones. `differential [--spoil N] [SEED [COUNT]]`.

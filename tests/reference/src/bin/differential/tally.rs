@@ -2,6 +2,7 @@
 
 use midvokt_reference::expected::Expected;
 use midvokt_reference::input::Program;
+use midvokt_reference::whole;
 
 use crate::results::Results;
 
@@ -9,7 +10,7 @@ use crate::results::Results;
 const LAST_REFUSAL: usize = 20;
 
 /// What plans have reached, each with the number of plans that did.
-const REACHED: [&str; 9] = [
+const REACHED: [&str; 12] = [
     "100 records or more",
     "1,024 records",
     "more than 62 coordinates at the end",
@@ -19,6 +20,16 @@ const REACHED: [&str; 9] = [
     "a component of 61 members",
     "a row of ten sources or more",
     "2^64 - 1 allocated",
+    "just 38 coordinates at their widest",
+    "just 39 coordinates at their widest",
+    "39 coordinates or more in between, fewer at the start and the end",
+];
+
+/// What the marks of the whole works say.
+const MARKS: [&str; 3] = [
+    "too wide for whole works",
+    "with whole works and no quotient",
+    "with whole works and a quotient",
 ];
 
 #[derive(Default)]
@@ -26,6 +37,8 @@ pub struct Tally {
     /// Place 0 counts plans, the others refusals.
     answers: [u64; LAST_REFUSAL + 1],
     selected: u64,
+    /// Plans by the mark of their whole works.
+    marks: [u64; MARKS.len()],
     reached: [u64; REACHED.len()],
     pub incomparable: u64,
     pub calls: u64,
@@ -69,8 +82,12 @@ impl Tally {
             return;
         }
         self.selected += expected.result[1];
+        self.marks[expected.result[9] as usize] += 1;
         let sizes = group_sizes(&expected.outputs[6]);
         let longest = expected.outputs[2].iter().max().copied().unwrap_or(0);
+        let widths = whole::widths(program);
+        let widest = widths.iter().max().copied().unwrap_or(0);
+        let ends = widths.first().max(widths.last()).copied().unwrap_or(0);
         let reached = [
             expected.outputs[0].len() >= 2 * 100,
             expected.outputs[0].len() == 2 * 1024,
@@ -81,6 +98,9 @@ impl Tally {
             longest == 61,
             most_sources(expected) >= 10,
             expected.result[8] == u64::MAX,
+            widest == 38,
+            widest == 39,
+            widest > 38 && ends <= 38,
         ];
         for (count, reached) in self.reached.iter_mut().zip(reached) {
             *count += u64::from(reached);
@@ -103,6 +123,7 @@ impl Tally {
                 .for_each(|(mine, theirs)| *mine += theirs);
         };
         add(&mut self.answers, &other.answers);
+        add(&mut self.marks, &other.marks);
         add(&mut self.reached, &other.reached);
         self.selected += other.selected;
         self.incomparable += other.incomparable;
@@ -146,6 +167,8 @@ impl Tally {
             format!("incomparable {}", self.incomparable),
         ];
         lines.extend((1..=LAST_REFUSAL).map(|n| format!("refused {n}: {}", self.answers[n])));
+        let marks = MARKS.iter().zip(self.marks);
+        lines.extend(marks.map(|(name, count)| format!("plans {name}: {count}")));
         let reached = REACHED.iter().zip(self.reached);
         lines.extend(reached.map(|(name, count)| format!("plans with {name}: {count}")));
         lines.push(format!(
