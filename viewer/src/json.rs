@@ -2,7 +2,9 @@
 //! of the plan have the names that the Rust crate gives them. A field whose whole number may
 //! pass 2^53, which a reader may keep as a float, is a string of digits, whatever it holds.
 
-use midvokt::{ActiveComponentStepKind as Kind, ActivePauliAction, Complex, Head, Refusal};
+use midvokt::{
+    ActiveComponentStepKind as Kind, ActivePauliAction, Complex, Head, Refusal, WholeWorks,
+};
 
 use crate::choice::Choice;
 use crate::circuit::Circuit;
@@ -77,7 +79,7 @@ fn complex(number: Complex) -> String {
 }
 
 /// A number, or null.
-fn optional(number: Option<usize>) -> String {
+fn optional<T: ToString>(number: Option<T>) -> String {
     number.map_or("null".to_owned(), |number| number.to_string())
 }
 
@@ -105,6 +107,33 @@ fn tests(choice: &Choice) -> String {
         ])
     };
     tall_list(&tests.iter().map(test).collect::<Vec<_>>())
+}
+
+/// Both works as whole numbers, which are below 2^53; null for what the mark does not give.
+fn whole_works(works: WholeWorks) -> String {
+    let (mark, numbers) = match works {
+        WholeWorks::TooWide => ("too_wide", [None; 4]),
+        WholeWorks::WithoutQuotient { dense } => {
+            ("without_quotient", [Some(dense), Some(0), None, None])
+        }
+        WholeWorks::WithQuotient {
+            dense,
+            component,
+            quotient,
+            remainder,
+        } => {
+            let numbers = [dense, component, quotient, remainder];
+            ("with_quotient", numbers.map(Some))
+        }
+    };
+    let [dense, component, quotient, remainder] = numbers.map(optional);
+    object(&vec![
+        ("mark", string(mark)),
+        ("dense", dense),
+        ("component", component),
+        ("quotient", quotient),
+        ("remainder", remainder),
+    ])
 }
 
 /// The name of a step's kind.
@@ -265,6 +294,7 @@ pub fn plan(view: &View<'_>) -> String {
             "estimated_component_work",
             float(plan.estimated_component_work),
         ),
+        ("whole_works", whole_works(plan.whole_works)),
         ("dense_peak_dimension", wide(plan.dense_peak_dimension)),
         (
             "component_peak_live_dimension",
@@ -308,8 +338,33 @@ mod tests_of_json {
         assert_eq!(list(&[1, 2]), "[1, 2]");
         assert_eq!(list::<usize>(&[]), "[]");
         assert_eq!(
-            object(&vec![("a", float(-0.0)), ("b", optional(None))]),
+            object(&vec![("a", float(-0.0)), ("b", optional::<u64>(None))]),
             "{\"a\": -0.0, \"b\": null}"
+        );
+    }
+
+    #[test]
+    fn what_a_mark_does_not_give_is_null() {
+        assert_eq!(
+            whole_works(WholeWorks::TooWide),
+            "{\"mark\": \"too_wide\", \"dense\": null, \"component\": null, \
+             \"quotient\": null, \"remainder\": null}"
+        );
+        assert_eq!(
+            whole_works(WholeWorks::WithoutQuotient { dense: 2 }),
+            "{\"mark\": \"without_quotient\", \"dense\": 2, \"component\": 0, \
+             \"quotient\": null, \"remainder\": null}"
+        );
+        let works = WholeWorks::WithQuotient {
+            dense: 26_624,
+            component: 334,
+            quotient: 79,
+            remainder: 238,
+        };
+        assert_eq!(
+            whole_works(works),
+            "{\"mark\": \"with_quotient\", \"dense\": 26624, \"component\": 334, \
+             \"quotient\": 79, \"remainder\": 238}"
         );
     }
 }

@@ -20,6 +20,7 @@ mod svg;
 mod terminal;
 mod text;
 mod words;
+mod works;
 
 use std::io::{self, ErrorKind, Write};
 use std::path::Path;

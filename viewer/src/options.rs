@@ -34,8 +34,8 @@ PAULI  -_ZZ         a sign and a letter for each active coordinate, position 0
 ANGLE  in radians: 0.25, or a part of pi: pi/8, -3pi/4
 
 It prints the choice with both sides of each test; notes on what may be meant
-otherwise; works and dimensions; a line a record; the components' lives as
-lanes; the final groups.
+otherwise; works, and how many times cheaper the split is; dimensions; a line a
+record; the components' lives as lanes; the final groups.
   --json        the plan, or the refusal, for programs instead (docs/JSON.md)
   --svg FILE    the lanes as a picture besides
   --words FILE  head (3 words) and records (8 each) besides: 64 bits each,

@@ -8,6 +8,7 @@ use crate::planning::View;
 use crate::shapes::{self, escaped, line, shade, share, stroke};
 use crate::shapes::{FAINT, GREY, INK, LARGEST, WHITE};
 use crate::text;
+use crate::works;
 
 /// Where the first lane begins.
 const LEFT: f64 = 52.0;
@@ -197,19 +198,13 @@ impl Picture<'_> {
             true => "Selected",
             false => "Not selected",
         };
-        let (dense, component) = (plan.estimated_dense_work, plan.estimated_component_work);
-        let compared = text::comparison(dense, component);
         let why = match &self.view.choice {
             Choice::Unread(reason) => format!("{choice}: {reason}; no record is read"),
-            Choice::Tested { tests, .. } => {
-                format!("{choice}: {}; {compared}", text::verdict(tests))
-            }
+            Choice::Tested { tests, .. } => format!("{choice}: {}", text::verdict(tests)),
         };
-        let works = format!(
-            "work: {} dense, {} in components",
-            figures::float(dense),
-            figures::float(component)
-        );
+        let (dense, component) = works::digits(plan);
+        let works = format!("work: {dense} dense, {component} in components");
+        let compared = works::comparison(plan).join("; ");
         let dimensions = format!(
             "dimensions: peak {}, allocated {}, dense peak {}",
             figures::whole(plan.component_peak_live_dimension as u64),
@@ -221,7 +216,8 @@ impl Picture<'_> {
         self.words((MARGIN, 28.0), &bold, &title);
         self.words((MARGIN, 49.0), "font-size=\"13\"", &why);
         self.grey_words((MARGIN, 67.0), 12.0, "start", &works);
-        self.grey_words((MARGIN, 84.0), 12.0, "start", &dimensions);
+        self.grey_words((MARGIN, 84.0), 12.0, "start", &compared);
+        self.grey_words((MARGIN, 101.0), 12.0, "start", &dimensions);
     }
 
     /// The circuit's name, or its end where it is too long for the title.

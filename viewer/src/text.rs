@@ -13,6 +13,7 @@ use crate::line::visible;
 use crate::lives::{Deed, Event};
 use crate::notes;
 use crate::planning::View;
+use crate::works;
 
 /// The most characters of a record's own line, and of a local Pauli, that the table shows.
 const MOST_OF_LINE: usize = 32;
@@ -107,48 +108,35 @@ fn choice(view: &View<'_>, columns: usize) -> String {
     text
 }
 
-/// How the components' work compares with that of one wide register.
-pub fn comparison(dense: f64, component: f64) -> String {
-    let times = |number: f64| match number {
-        number if number < 100.0 => format!("{number:.2}"),
-        number => figures::float(number.round()),
-    };
-    if component == 0.0 {
-        return "the components have no work".to_owned();
-    }
-    if dense >= component {
-        return format!(
-            "the components are {} times cheaper",
-            times(dense / component)
-        );
-    }
-    if dense == 0.0 {
-        return "one wide register has no work".to_owned();
-    }
+/// The works, and how many times cheaper the components are.
+fn work(view: &View<'_>, columns: usize) -> String {
+    let (dense, component) = works::digits(&view.plan);
+    let compared = works::comparison(&view.plan);
+    let compared = compared
+        .iter()
+        .map(|line| figures::wrapped("  ", line, columns));
     format!(
-        "the components are {} times dearer",
-        times(component / dense)
+        "Work\n  dense        {dense}\n  components   {component}\n{}",
+        compared.collect::<String>()
     )
 }
 
-/// The works and the dimensions.
-fn sizes(view: &View<'_>, columns: usize) -> String {
+/// The dimensions; where no record is read, only what max gives.
+fn dimensions(view: &View<'_>, columns: usize) -> String {
     let plan = &view.plan;
-    let (dense, component) = (plan.estimated_dense_work, plan.estimated_component_work);
+    let peak = figures::dimension(plan.dense_peak_dimension as u64);
+    let dense = |words: &str| figures::wrapped("  dense peak   ", words, columns);
+    if let Choice::Unread(_) = view.choice {
+        return format!("Dimensions\n{}", dense(&format!("{peak}, from max")));
+    }
     let widest = figures::count(view.circuit.widest(), "coordinate", "coordinates");
-    let peak = format!(
-        "{}, from max; the widest register has {widest}",
-        figures::dimension(plan.dense_peak_dimension as u64)
-    );
     format!(
-        "Work\n  dense        {}\n  components   {}\n{}\n\
-         Dimensions\n  peak         {}\n  allocated    {}\n{}",
-        figures::float(dense),
-        figures::float(component),
-        figures::wrapped("  ", &comparison(dense, component), columns),
+        "Dimensions\n  peak         {}\n  allocated    {}\n{}",
         figures::whole(plan.component_peak_live_dimension as u64),
         figures::whole(plan.component_allocated_dimension as u64),
-        figures::wrapped("  dense peak   ", &peak, columns),
+        dense(&format!(
+            "{peak}, from max; the widest register has {widest}"
+        )),
     )
 }
 
@@ -246,8 +234,9 @@ pub fn plan(view: &View<'_>, style: &Style) -> String {
     let name = visible(view.name);
     let mut parts = vec![heading(&name, view.circuit, columns), choice(view, columns)];
     parts.push(noted(view.circuit, columns));
+    parts.push(work(view, columns));
+    parts.push(dimensions(view, columns));
     if let Choice::Tested { .. } = view.choice {
-        parts.push(sizes(view, columns));
         if !view.circuit.records.is_empty() {
             parts.push(records(view, columns));
         }
@@ -255,10 +244,6 @@ pub fn plan(view: &View<'_>, style: &Style) -> String {
             parts.push(lanes::picture(&view.replay, style));
         }
         parts.push(groups(view));
-    } else {
-        let peak = figures::dimension(view.plan.dense_peak_dimension as u64);
-        let peak = figures::wrapped("  dense peak   ", &format!("{peak}, from max"), columns);
-        parts.push(format!("Dimensions\n{peak}"));
     }
     if !view.replay.agrees(&view.plan) {
         let words = "The lanes drawn here do not agree with the plan. The plan counts.";
@@ -348,24 +333,6 @@ pub fn refusal(name: &str, circuit: &Circuit, refusal: &Refusal, style: &Style) 
 mod tests {
     use super::*;
     use crate::circuit;
-
-    #[test]
-    fn works_are_compared_in_words() {
-        assert_eq!(
-            comparison(80.0, 10.0),
-            "the components are 8.00 times cheaper"
-        );
-        assert_eq!(
-            comparison(8.0, 44.0),
-            "the components are 5.50 times dearer"
-        );
-        assert_eq!(
-            comparison(1e6, 2.0),
-            "the components are 500,000 times cheaper"
-        );
-        assert_eq!(comparison(1.0, 0.0), "the components have no work");
-        assert_eq!(comparison(0.0, 34.0), "one wide register has no work");
-    }
 
     /// What is said of a circuit that is refused.
     fn said(text: &str, columns: usize) -> String {
