@@ -4,7 +4,7 @@ use mathlib.Core.Path.{_≡_, refl, sym, ap, _∙_, subst}
 use mathlib.Core.Bool.{Bool, true, false, cond}
 use mathlib.Core.List.{List, [], _∷_}
 use Prim.Native.Nat.{ℕ, zero, suc, _+_, _*_, _^_, _≤_, _<_}
-use native.Mathlib.Nat.{mul-pos}
+use native.Mathlib.Nat.{zero-add, mul-pos}
 use native.Mathlib.Omega.{arith}
 use lib.Dec.{leb}
 use lib.Pow.{pow-mono}
@@ -93,5 +93,4 @@ pub joining-whole : (cs : List (List ℕ)) (ss : List ℕ) → wholeJoiningCost 
 unfolding joiningCost wholeJoiningCost ofInt
 joining-whole cs [] h = refl
 joining-whole cs (t ∷ others) h =
-    let same : 0 + wholeCostFrom cs (sizeOf cs t) others ≡ wholeCostFrom cs (sizeOf cs t) others = omega arith in
-    cost-whole cs (sizeOf cs t) 0 (fin false 0 (pos 0)) others refl (omega arith) ∙ ap wholeFloat same
+    cost-whole cs (sizeOf cs t) 0 (fin false 0 (pos 0)) others refl (omega arith) ∙ ap wholeFloat (zero-add (wholeCostFrom cs (sizeOf cs t) others))

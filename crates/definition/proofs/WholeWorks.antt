@@ -6,7 +6,7 @@ use mathlib.Core.Bool.{Bool, true, false, cond, not}
 use mathlib.Core.List.{List, [], _∷_, _++_}
 use Prim.Native.Nat.{ℕ, zero, suc, _+_, _*_, _/_, _%_, _^_, _≤_, _<_, max}
 use native.Mathlib.Omega.{arith}
-use native.Mathlib.Nat.{div-add-mod, mod-lt}
+use native.Mathlib.Nat.{add-zero, add-suc, suc-add, add-assoc, div-add-mod, mod-lt}
 use lib.Dec.{ltb, eqb}
 use lib.ListN.{length, getD, length-append}
 use lib.Pow.{pow-mono, pow-add}
@@ -38,10 +38,7 @@ use Rattle.definition.proofs.WholeFloats.{wholeFloat, whole-value, valu
 -- a joining cost from a component of a size on: with four times that dimension, at most four times the dimension that is reached
 cost-below : (cs : List (List ℕ)) (size : ℕ) (ss : List ℕ) → ((c : ℕ) → Member c ss → 0 < sizeOf cs c)
     → wholeCostFrom cs size ss + 4 * 2 ^ size ≤ 4 * 2 ^ (size + length (gathered cs ss))
-cost-below cs size [] f = let e = ap (λ (n : ℕ). 2 ^ n) (the-same size) in omega arith
-  where
-    the-same : (n : ℕ) → n + 0 ≡ n
-    the-same n = omega arith
+cost-below cs size [] f = let e = ap (λ (n : ℕ). 2 ^ n) (add-zero size) in omega arith
 cost-below cs size (s ∷ ss) f =
     let more = sizeOf cs s in
     let r = cost-below cs (size + more) ss (λ c m. f c (member-tail c s ss m)) in
@@ -142,10 +139,7 @@ joined-sum : (work join cost : Float) (w j c : ℕ) → work ≡ wholeFloat w �
 joined-sum work join cost w j c e f g small =
     let first = add-whole work join w j (value-of work w e (omega arith)) (value-of join j f (omega arith)) in
     add-whole (add binary64 work join) cost (w + j) c (value-of (add binary64 work join) (w + j) first (omega arith)) (value-of cost c g (omega arith))
-    ∙ ap wholeFloat (the-same w j c)
-  where
-    the-same : (a b c : ℕ) → a + b + c ≡ a + (b + c)
-    the-same a b c = omega arith
+    ∙ ap wholeFloat (add-assoc w j c)
 
 thirty-two : fin false 1 (pos 5) ≡ wholeFloat 32
 unfolding ofInt
@@ -155,18 +149,14 @@ thirty-four : fin false 17 (pos 1) ≡ wholeFloat 34
 unfolding ofInt
 thirty-four = refl
 
--- nothing more
-plus-none : (n : ℕ) → n ≡ n + 0
-plus-none n = omega arith
-
 -- a step that adds nothing to the works
 plain-exactly : (b : ℕ) (w : Walk) → Exactly b w → Exactly (suc b) (noStep w)
 unfolding noStep
 plain-exactly b w p = record {
   dense-most = omega (arith, p .dense-most);
   component-most = omega (arith, p .component-most);
-  dense = p .dense ∙ ap wholeFloat (plus-none (w .whole .dense));
-  component = p .component ∙ ap wholeFloat (plus-none (w .whole .component));
+  dense = p .dense ∙ ap wholeFloat (sym (add-zero (w .whole .dense)));
+  component = p .component ∙ ap wholeFloat (sym (add-zero (w .whole .component)));
 }
 
 -- at width 38 a coordinate's power is at most 2 ^ 38
@@ -181,7 +171,7 @@ step-exactly {w = w} r b (ignored x z phase angle sine cosine e) t inside narrow
   dense-most = omega (arith, p .dense-most);
   component-most = omega (arith, p .component-most);
   dense = add-whole (w .denseWork) (exp2 0) (w .whole .dense) 1 (value-of _ _ (p .dense) (omega (arith, p .dense-most))) (power-value 0 (omega arith));
-  component = p .component ∙ ap wholeFloat (plus-none (w .whole .component));
+  component = p .component ∙ ap wholeFloat (sym (add-zero (w .whole .component)));
 }
 step-exactly {w = w} r b (rotated width x z phase angle sine cosine k wide active small fits made) t inside narrow few p =
     let n = length (w .order) in
@@ -241,14 +231,11 @@ step-exactly {w = w} r b branched t inside narrow few p = plain-exactly b w p
 
 run-exactly : {limit : ℕ} {w u : Walk} {is : List Instruction} (r : ActiveOrder) (b : ℕ) → Run limit w is u → Tracked w r → length (w .order) ≤ w .whole .widest
     → u .whole .widest ≤ 38 → b + length is ≤ 1024 → Exactly b w → Exactly (b + length is) u
-run-exactly r b (done w) t inside narrow few p = subst (λ (n : ℕ). Exactly n w) (plus-none b) p
+run-exactly r b (done w) t inside narrow few p = subst (λ (n : ℕ). Exactly n w) (sym (add-zero b)) p
 run-exactly {u = u} r b (more {i = i} {is = is} s rest) t inside narrow few p =
     let later = run-widest rest in
-    subst (λ (n : ℕ). Exactly n u) (the-same b (length is))
+    subst (λ (n : ℕ). Exactly n u) (suc-add b (length is) ∙ sym (add-suc b (length is)))
     (run-exactly (activeStep r i) (suc b) rest (step-tracked r s t) (step-within s) narrow (omega arith) (step-exactly r b s t inside (omega arith) (omega arith) p))
-  where
-    the-same : (b n : ℕ) → suc b + n ≡ b + suc n
-    the-same b n = omega arith
 
 -- so in every state that a narrow walk reaches
 pub reached-exactly : {limit : ℕ} (k : ℕ) {is : List Instruction} {u : Walk} → Run limit (start k) is u → length is ≤ 1024 → u .whole .widest ≤ 38 → Exactly 1024 u

@@ -5,7 +5,7 @@ use mathlib.Core.List.{List}
 use mathlib.Core.Bool.{Bool, true, false, cond}
 use Prim.Native.Nat.{ℕ, _+_, _-_, _*_, _%_, _^_, _<_, _≤_}
 use native.Mathlib.Omega.{arith}
-use native.Mathlib.Nat.{mod-eq-of-lt, mod-add-mod, add-mod-mod, mul-mod-left}
+use native.Mathlib.Nat.{add-assoc, mod-eq-of-lt, mod-add-mod, add-mod-mod, mul-mod-left}
 use lib.Dec.{leb}
 use lib.Ieee.{Float, binary64, fin, add, mul}
 use lib.IntN.{pos}
@@ -53,21 +53,9 @@ kept-sum kept full more e = ap (λ (n : ℕ). (n + more) % 2 ^ 64) e ∙ mod-add
 -- and with a joining cost, kept so too, before it
 pub kept-joined : (kept full cost paid more : ℕ) → kept ≡ full % 2 ^ 64 → cost ≡ paid % 2 ^ 64 → ((kept + cost) % 2 ^ 64 + more) % 2 ^ 64 ≡ (full + (paid + more)) % 2 ^ 64
 kept-joined kept full cost paid more e c =
-    mod-add-mod (kept + cost) (2 ^ 64) more
-    ∙ ap (λ (n : ℕ). n % 2 ^ 64) (grouped kept cost more)
-    ∙ kept-sum kept full (cost + more) e
-    ∙ ap (λ (n : ℕ). n % 2 ^ 64) (turned full cost more)
-    ∙ wraps ((full + more + cost) % 2 ^ 64) (full + more) cost paid refl c
-    ∙ ap (λ (n : ℕ). n % 2 ^ 64) (back full paid more)
-  where
-    grouped : (a b c : ℕ) → a + b + c ≡ a + (b + c)
-    grouped a b c = omega arith
-
-    turned : (a b c : ℕ) → a + (b + c) ≡ a + c + b
-    turned a b c = omega arith
-
-    back : (a b c : ℕ) → a + c + b ≡ a + (b + c)
-    back a b c = omega arith
+    ap (λ (n : ℕ). (n + more) % 2 ^ 64) (kept-sum kept full cost e ∙ wraps ((full + cost) % 2 ^ 64) full cost paid refl c)
+    ∙ mod-add-mod (full + paid) (2 ^ 64) more
+    ∙ ap (λ (n : ℕ). n % 2 ^ 64) (add-assoc full paid more)
 
 -- ---- sources
 
@@ -99,10 +87,7 @@ module _ (size sources : List ℕ) (i : ℕ) (inside : i < length sources) where
       ap (λ (l : List ℕ). wholeCostIn size grown l) (rest-at sources i inside) ∙ ap (λ (m : ℕ). 2 * 2 ^ (grown + m) + wholeCostIn size (grown + m) (drop (i + 1) sources)) (sym e) in
       ap (λ (m : ℕ). (m + rest) % 2 ^ 64) (n ∙ ap (λ (m : ℕ). (whole + m) % 2 ^ 64) p ∙ add-mod-mod whole paid (2 ^ 64))
       ∙ mod-add-mod (whole + paid) (2 ^ 64) rest
-      ∙ ap (λ (m : ℕ). m % 2 ^ 64) (grouped whole paid rest ∙ ap (λ (m : ℕ). whole + m) (sym parts))
-    where
-      grouped : (a b c : ℕ) → a + b + c ≡ a + (b + c)
-      grouped a b c = omega arith
+      ∙ ap (λ (m : ℕ). m % 2 ^ 64) (add-assoc whole paid rest ∙ ap (λ (m : ℕ). whole + m) (sym parts))
 
 -- where no source is left, the sums are those of the join
 pub all-joined : (size sources : List ℕ) (i grown freed whole : ℕ) (cost : Float)

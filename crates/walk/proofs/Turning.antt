@@ -6,6 +6,7 @@ use mathlib.Core.Bool.{Bool, true, false, cond}
 use mathlib.Core.List.{List, [], _∷_, _++_}
 use Prim.Native.Nat.{ℕ, suc, _+_, _-_, _*_, _/_, _%_, _^_, _≤_, _<_, max}
 use native.Mathlib.Numerals.{add-one}
+use native.Mathlib.Nat.{add-zero}
 use native.Mathlib.Omega.{arith}
 use lib.Dec.{eqb, leb}
 use lib.IntN.{pos}
@@ -62,10 +63,6 @@ at-answer false n rest q e = let z : _≡_ {A = ℕ} 0 1 = cc in absurd (omega a
 power-left : (m : List ℕ) (size : ℕ) → suc (length m) ≡ size → amplitudes m ≡ powerLeft size
 power-left [] size e = sym (cond-yes (leb size 1) 0 _ (le-leb size 1 (omega arith)))
 power-left (a ∷ m) size e = ap (λ (n : ℕ). 2 ^ n) (omega arith) ∙ sym (cond-no (leb size 1) 0 (2 ^ (size - 1)) (lt-leb size 1 (omega arith)))
-
--- nothing added
-no-more : (n : ℕ) → n ≡ n + 0
-no-more n = omega arith
 
 module _ (limit k : ℕ) (ws : List ℕ) (b : Buffers) (ok : Walkable k ws b) (i : ℕ) (next : i < length ws / 8) (w : Walk) (s : State) (t : Tally) (c : Buffers)
     (at : Reached limit k (instructionsOf ws) i w s t c) (long : SameLengths b c) where
@@ -507,8 +504,8 @@ module _ (limit k : ℕ) (ws : List ℕ) (b : Buffers) (ok : Walkable k ws b) (i
         sums = record {
           dense = at .sums .dense;
           work = at .sums .work;
-          whole-dense = at .sums .whole-dense ∙ ap (λ (n : ℕ). n % 2 ^ 64) (no-more (w .whole .dense));
-          whole-work = at .sums .whole-work ∙ ap (λ (n : ℕ). n % 2 ^ 64) (no-more (w .whole .component));
+          whole-dense = at .sums .whole-dense ∙ ap (λ (n : ℕ). n % 2 ^ 64) (sym (add-zero (w .whole .dense)));
+          whole-work = at .sums .whole-work ∙ ap (λ (n : ℕ). n % 2 ^ 64) (sym (add-zero (w .whole .component)));
           widest = no-wider;
           live = at .sums .live;
           peak = at .sums .peak;
@@ -541,7 +538,7 @@ module _ (limit k : ℕ) (ws : List ℕ) (b : Buffers) (ok : Walkable k ws b) (i
           dense = ap (λ (a : Float). add binary64 a (exp2 0)) (at .sums .dense);
           work = at .sums .work;
           whole-dense = kept-sum (t .«whole_dense») (w .whole .dense) 1 (at .sums .whole-dense);
-          whole-work = at .sums .whole-work ∙ ap (λ (n : ℕ). n % 2 ^ 64) (no-more (w .whole .component));
+          whole-work = at .sums .whole-work ∙ ap (λ (n : ℕ). n % 2 ^ 64) (sym (add-zero (w .whole .component)));
           widest = no-wider;
           live = at .sums .live;
           peak = at .sums .peak;

@@ -3,7 +3,7 @@ use mathlib.Core.Bool.{false}
 use mathlib.Core.Path.{_≡_, sym, ap, _∙_}
 use Prim.Native.Nat.{ℕ, _+_, _-_, _%_, _^_, _<_, _≤_}
 use native.Mathlib.Omega.{arith}
-use native.Mathlib.Nat.{mod-lt}
+use native.Mathlib.Nat.{zero-add, mod-lt}
 use lib.IntN.{pos}
 use lib.Ieee.{fin, ofBits}
 use lib.ListN.{length, getD, drop}
@@ -45,9 +45,6 @@ power-requires c κs =
       start .pre .few,
     )
 
-from-none : (n : ℕ) → 0 + n ≡ n
-from-none n = omega arith
-
 loop-holds : tie.Need-loop-holds Inv-loop μ-loop
 unfolding ofBits
 loop-holds c =
@@ -61,7 +58,7 @@ loop-holds c =
           ∙ sym (powers-at size sources 0 (start .pre .some)),
       ap (λ (n : ℕ). costIn size n (fin false 0 (pos 0)) (drop 1 sources)) (c .before .size-at .ensures),
       omega arith,
-      ap (λ (n : ℕ). n % 2 ^ 64) (from-none (wholeCostIn size (c .before .size-at .result) (drop 1 sources))
+      ap (λ (n : ℕ). n % 2 ^ 64) (zero-add (wholeCostIn size (c .before .size-at .result) (drop 1 sources))
           ∙ ap (λ (n : ℕ). wholeCostIn size n (drop 1 sources)) (c .before .size-at .ensures)),
     )
 
