@@ -1,4 +1,4 @@
--- Demand 3, and the law of the whole works, of what a call leaves: its contract says that the answer's fields are those of the definition's plan and that each buffer holds that plan's words and
+-- Demand 3, and the laws of the whole works, of what a call leaves: its contract says that the answer's fields are those of the definition's plan and that each buffer holds that plan's words and
 -- zeros behind them, and the claims that hold of a plan hold of its words followed by zeros.
 use Prim.Native.Nat.{ℕ, _≤_}
 use native.Mathlib.Omega.{arith}
@@ -11,11 +11,11 @@ use Rattle.records.specs.declared.Head.{Head}
 use Rattle.definition.specs.WholeWorks.{WholeWorks}
 use Rattle.definition.specs.Plan.{Plan, Result, planned, refusedAt, planOf}
 use Rattle.definition.specs.Connectivity.{Connected}
-use Rattle.definition.specs.Laws.{Agree}
+use Rattle.definition.specs.Laws.{Agree, TooWideExactly}
 use Rattle.definition.proofs.Accepted.{accepted}
 use Rattle.definition.proofs.Connected.{read-head, connected}
 use Rattle.definition.proofs.Padded.{Pads, connected-padded}
-use Rattle.definition.proofs.WholeWorks.{works-agree}
+use Rattle.definition.proofs.WholeWorks.{works-agree, too-wide-exactly}
 use Rattle.tally.specs.Tally.{worksOf}
 use Rattle.walk.specs.Walking.{Buffers, lengthsOf}
 use Rattle.component_plan.specs.declared.ActiveComponentPlan.{ActiveComponentPlan}
@@ -59,17 +59,29 @@ call-connected limit h ws before after r a wide none m within =
     connected-padded limit h ws (lengthsOf before) p (planIn r after) plan (found .2) m within
     (connected limit h ws (lengthsOf before) p (found .1) wide none m within)
 
+-- an answer that is a plan has the definition's works
+planned-works : (result : Result) (r : ActiveComponentPlan) → outcomeOf (P.Plan r) ≡ outcomeIn result
+    → (p : Plan) × (result ≡ planned p) × (p .wholeWorks ≡ worksOf (r .«whole_works»)) × (p .denseWork ≡ r .«estimated_dense_work»)
+    × (p .componentWork ≡ r .«estimated_component_work»)
+planned-works (planned p) r e =
+    let whole : p .wholeWorks ≡ worksOf (r .«whole_works») = cc in
+    let dense : p .denseWork ≡ r .«estimated_dense_work» = cc in
+    let component : p .componentWork ≡ r .«estimated_component_work» = cc in (p, refl, whole, dense, component)
+planned-works (refusedAt number index) r e = let z : _≡_ {A = ℕ} 0 1 = cc in absurd (omega arith)
+
 -- wherever a call gives whole works, its float works are these numbers
 pub call-works-agree : (limit : ℕ) (h : Head) (ws : List ℕ) (before after : Buffers) (r : ActiveComponentPlan) → Answers limit h ws before after (P.Plan r)
     → Agree (worksOf (r .«whole_works»)) (r .«estimated_dense_work») (r .«estimated_component_work»)
-call-works-agree limit h ws before after r a = go (planOf limit h ws (lengthsOf before)) refl (a .answer)
-  where
-    go : (result : Result) → planOf limit h ws (lengthsOf before) ≡ result → outcomeOf (P.Plan r) ≡ outcomeIn result
-        → Agree (worksOf (r .«whole_works»)) (r .«estimated_dense_work») (r .«estimated_component_work»)
-    go (planned p) e same =
-        let whole : p .wholeWorks ≡ worksOf (r .«whole_works») = cc in
-        let dense : p .denseWork ≡ r .«estimated_dense_work» = cc in
-        let component : p .componentWork ≡ r .«estimated_component_work» = cc in
-        subst (λ (x : WholeWorks). Agree x (r .«estimated_dense_work») (r .«estimated_component_work»)) whole
-        (subst₂ (λ (d c : Float). Agree (p .wholeWorks) d c) dense component (works-agree limit h ws (lengthsOf before) p e))
-    go (refusedAt number index) e same = let z : _≡_ {A = ℕ} 0 1 = cc in absurd (omega arith)
+call-works-agree limit h ws before after r a =
+    let found = planned-works (planOf limit h ws (lengthsOf before)) r (a .answer) in
+    let p = found .0 in
+    subst (λ (x : WholeWorks). Agree x (r .«estimated_dense_work») (r .«estimated_component_work»)) (found .2)
+    (subst₂ (λ (d c : Float). Agree (p .wholeWorks) d c) (found .3) (found .4) (works-agree limit h ws (lengthsOf before) p (found .1)))
+
+-- and it says too wide exactly where the roll's width passes 38
+pub call-too-wide : (limit : ℕ) (h : Head) (ws : List ℕ) (before after : Buffers) (r : ActiveComponentPlan) → Answers limit h ws before after (P.Plan r)
+    → 8 ≤ h .«max_k» → h .nexpvals ≡ 0 → TooWideExactly (h .«initial_k») (instructionsOf ws) (worksOf (r .«whole_works»))
+call-too-wide limit h ws before after r a wide none =
+    let found = planned-works (planOf limit h ws (lengthsOf before)) r (a .answer) in
+    subst (λ (x : WholeWorks). TooWideExactly (h .«initial_k») (instructionsOf ws) x) (found .2)
+    (too-wide-exactly limit h ws (lengthsOf before) (found .0) (read-head h wide none) (found .1))

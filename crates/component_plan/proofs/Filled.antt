@@ -1,5 +1,5 @@
 -- What a buffer holds once the words behind the used ones are zeroed: the walk's words stand in front, so it holds them and zeros, as the definition's plan says. And
--- the whole works that are kept modulo 2 ^ 64 are the definition's wherever they are given: there they are below 2 ^ 52.
+-- the whole works that are kept modulo 2 ^ 64 are the definition's wherever they are given: there they are at most 2 ^ 51.
 use Prim.Native.Nat.{ℕ, _-_, _*_, _/_, _%_, _^_, _<_, _≤_}
 use native.Mathlib.Omega.{arith}
 use native.Mathlib.Nat.{mod-eq-of-lt}

@@ -3,16 +3,17 @@
 -- So after 1,024 records both sums are at most 2 ^ 51, and no addition before that rounded.
 use mathlib.Core.Path.{_≡_, refl, sym, ap, _∙_, subst}
 use mathlib.Core.Bool.{Bool, true, false, cond, not}
+use mathlib.Core.Logic.{_⊎_, inl, inr, ⊎-elim}
 use mathlib.Core.List.{List, [], _∷_, _++_}
 use Prim.Native.Nat.{ℕ, zero, suc, _+_, _*_, _/_, _%_, _^_, _≤_, _<_, max}
 use native.Mathlib.Omega.{arith}
 use native.Mathlib.Nat.{add-zero, add-suc, suc-add, add-assoc, div-add-mod, mod-lt}
 use lib.Dec.{ltb, eqb}
-use lib.ListN.{length, getD, length-append}
+use lib.ListN.{length, getD, take, length-append}
 use lib.Pow.{pow-mono, pow-add}
 use lib.IntN.{pos}
 use lib.Ieee.{Float, fin, binary64, add, mul, ofInt, toBits}
-use borrow.Author.Tests.{ltb-false, eqb-true, eqb-false}
+use borrow.Author.Tests.{ltb-true, ltb-false, lt-ltb, eqb-true, eqb-false}
 use Rattle.kernels.specs.Bits.{exp2}
 use Rattle.records.specs.Record.{instructionsOf}
 use Rattle.records.specs.declared.Head.{Head}
@@ -22,8 +23,8 @@ use Rattle.definition.specs.Components.{sizeOf, twoF, gathered, amplitud
 use Rattle.definition.specs.WholeWorks.{WholeSums, wholeCostFrom, wholeJoiningCost, WholeWorks, tooWide, withoutQuotient, withQuotient, quotientOf, wholeWorksOf}
 use Rattle.definition.specs.Walk.{Walk, joinOf, start, noStep, ignoredStep, promotionStep, rotationStep, measurementStep}
 use Rattle.definition.specs.Plan.{Lengths, Plan, planned, unread, unreadPlan, planFrom, planOf}
-use Rattle.definition.specs.Connectivity.{Member, ActiveOrder, activeStart, activeStep}
-use Rattle.definition.specs.Laws.{IsWhole, Agree}
+use Rattle.definition.specs.Connectivity.{Member, ActiveOrder, activeStart, activeStep, activeAfter}
+use Rattle.definition.specs.Laws.{IsWhole, Agree, TooWideExactly}
 use Rattle.definition.proofs.Counting.{member-head, member-tail, length-removeAt, length-numbers}
 use Rattle.definition.proofs.Steps.{Stepped, ignored, rotated, promoted, measured, recorded, detected, expected, branched, Run, done, more}
 use Rattle.definition.proofs.Invariant.{sources-once, source-below}
@@ -92,38 +93,37 @@ pub start-exactly : (k : ℕ) → Exactly 0 (start k)
 unfolding start ofInt
 start-exactly k = record { dense-most = omega arith; component-most = omega arith; dense = refl; component = refl }
 
--- the widest width never falls
-step-widest : {limit : ℕ} {w v : Walk} {i : Instruction} → Stepped limit w i v → w .whole .widest ≤ v .whole .widest
+-- a step's widest width is the one before it or the new one
+step-widest-is : {limit : ℕ} {w v : Walk} {i : Instruction} → Stepped limit w i v → v .whole .widest ≡ max (w .whole .widest) (length (v .order))
 unfolding noStep ignoredStep promotionStep rotationStep measurementStep
-step-widest (ignored x z phase angle sine cosine e) = omega arith
-step-widest (rotated width x z phase angle sine cosine k e a b c d) = omega arith
-step-widest promoted = omega arith
-step-widest (measured width x z phase pivot k e a b c d f g) = omega arith
-step-widest recorded = omega arith
-step-widest detected = omega arith
-step-widest expected = omega arith
-step-widest branched = omega arith
+step-widest-is (ignored x z phase angle sine cosine e) = refl
+step-widest-is (rotated width x z phase angle sine cosine k e a b c d) = refl
+step-widest-is promoted = refl
+step-widest-is (measured width x z phase pivot k e a b c d f g) = refl
+step-widest-is recorded = refl
+step-widest-is detected = refl
+step-widest-is expected = refl
+step-widest-is branched = refl
+
+-- so it never falls
+step-widest : {limit : ℕ} {w v : Walk} {i : Instruction} → Stepped limit w i v → w .whole .widest ≤ v .whole .widest
+step-widest s = let e = step-widest-is s in omega arith
 
 run-widest : {limit : ℕ} {w u : Walk} {is : List Instruction} → Run limit w is u → w .whole .widest ≤ u .whole .widest
 run-widest (done w) = omega arith
 run-widest (more s r) = let e = step-widest s in let f = run-widest r in omega arith
 
--- and the width is never above it: at the start
-start-within : (k : ℕ) → length (start k .order) ≤ start k .whole .widest
+-- and the width is never above it: at the start, where it is the widest
+start-widest : (k : ℕ) → start k .whole .widest ≡ length (start k .order)
 unfolding start
-start-within k = omega arith
+start-widest k = refl
+
+start-within : (k : ℕ) → length (start k .order) ≤ start k .whole .widest
+start-within k = let e = start-widest k in omega arith
 
 -- after a step
 step-within : {limit : ℕ} {w v : Walk} {i : Instruction} → Stepped limit w i v → length (v .order) ≤ v .whole .widest
-unfolding noStep ignoredStep promotionStep rotationStep measurementStep
-step-within (ignored x z phase angle sine cosine e) = omega arith
-step-within (rotated width x z phase angle sine cosine k e a b c d) = omega arith
-step-within promoted = omega arith
-step-within (measured width x z phase pivot k e a b c d f g) = omega arith
-step-within recorded = omega arith
-step-within detected = omega arith
-step-within expected = omega arith
-step-within branched = omega arith
+step-within s = let e = step-widest-is s in omega arith
 
 run-within : {limit : ℕ} {w u : Walk} {is : List Instruction} → Run limit w is u → length (w .order) ≤ w .whole .widest → length (u .order) ≤ u .whole .widest
 run-within (done w) h = h
@@ -300,3 +300,65 @@ works-agree limit h ws l p e = either (unread h) refl
         let q = unread-planned limit h ws l p u e in
         subst (λ (plan : Plan). Agree (plan .wholeWorks) (plan .denseWork) (plan .componentWork)) (sym (q .1)) (unread-agree (h .«initial_k») (q .0))
     either false u = accepted-agree limit h ws l p (accepted limit h ws l p u e)
+
+-- ---- which programs are too wide
+
+-- the roll's width is never above the widest
+run-reaches : {limit : ℕ} {w u : Walk} {is : List Instruction} (r : ActiveOrder) (m : ℕ) → Run limit w is u → Tracked w r → length (w .order) ≤ w .whole .widest
+    → length (activeAfter r (take m is) .order) ≤ u .whole .widest
+run-reaches r zero run t inside = let e = ap length (t .order-same) in let f = run-widest run in omega arith
+run-reaches r (suc m) (done w) t inside = let e = ap length (t .order-same) in omega arith
+run-reaches r (suc m) (more {i = i} s rest) t inside = run-reaches (activeStep r i) m rest (step-tracked r s t) (step-within s)
+
+-- and where the widest passes a number, so did the first width or the roll's after some record
+run-passes : {limit : ℕ} {w u : Walk} {is : List Instruction} (r : ActiveOrder) (n : ℕ) → Run limit w is u → Tracked w r → n < u .whole .widest
+    → (n < w .whole .widest) ⊎ ((m : ℕ) × (m ≤ length is) × (n < length (activeAfter r (take m is) .order)))
+run-passes r n (done w) t h = inl h
+run-passes r n (more {v = v} {i = i} {is = is} s rest) t h =
+    ⊎-elim
+    (λ wide. ⊎-elim
+    (λ before. inl before)
+    (λ now. inr (1, omega arith, let e = ap length (step-tracked r s t .order-same) in omega arith))
+    (either-passes n _ (length (v .order)) (let e = step-widest-is s in omega arith)))
+    (λ later. inr (suc (later .0), let l = later .1 in omega arith, later .2))
+    (run-passes (activeStep r i) n rest (step-tracked r s t) h)
+  where
+    either-passes : (n a b : ℕ) → n < max a b → (n < a) ⊎ (n < b)
+    either-passes n a b h = go (ltb n a) refl
+      where
+        go : (t : Bool) → ltb n a ≡ t → (n < a) ⊎ (n < b)
+        go true e = inl (ltb-true n a e)
+        go false e = let l = ltb-false n a e in inr (omega arith)
+
+-- the mark of the sums by the widest width
+marked-wide : (s : WholeSums) → 38 < s .widest → wholeWorksOf s ≡ tooWide
+unfolding wholeWorksOf
+marked-wide s h = ap (λ (t : Bool). cond t tooWide (quotientOf (s .dense) (s .component))) (lt-ltb 38 (s .widest) h)
+
+wide-marked : (s : WholeSums) → wholeWorksOf s ≡ tooWide → 38 < s .widest
+unfolding wholeWorksOf
+wide-marked s = go (ltb 38 (s .widest)) refl (eqb (s .component) 0)
+  where
+    go : (t : Bool) → ltb 38 (s .widest) ≡ t → (z : Bool)
+        → cond t tooWide (cond z (withoutQuotient (s .dense)) (withQuotient (s .dense) (s .component) (s .dense / s .component) (s .dense % s .component))) ≡ tooWide
+        → 38 < s .widest
+    go true e z f = ltb-true 38 (s .widest) e
+    go false e true f = let y : _≡_ {A = ℕ} 0 1 = cc in absurd (omega arith)
+    go false e false f = let y : _≡_ {A = ℕ} 0 1 = cc in absurd (omega arith)
+
+-- "Where the active width, at the start and after each record, never passes 38": of every plan whose records are read
+pub too-wide-exactly : (limit : ℕ) (h : Head) (ws : List ℕ) (l : Lengths) (p : Plan) → unread h ≡ false → planOf limit h ws l ≡ planned p
+    → TooWideExactly (h .«initial_k») (instructionsOf ws) (p .wholeWorks)
+unfolding planFrom
+too-wide-exactly limit h ws l p read e =
+    let a = accepted limit h ws l p read e in
+    let k = h .«initial_k» in
+    let u = a .last in
+    let tracked = start-tracked k in
+    subst (λ (q : Plan). TooWideExactly k (instructionsOf ws) (q .wholeWorks)) (sym (a .plan-is)) (record {
+      passes = λ f. ⊎-elim
+          (λ first. (0, omega arith, let o = ap length (tracked .order-same) in let s = start-widest k in omega arith))
+          (λ later. later)
+          (run-passes (activeStart k) 38 (a .run) tracked (wide-marked (u .whole) f));
+      marked = λ m within wide. marked-wide (u .whole) (let r = run-reaches (activeStart k) m (a .run) tracked (start-within k) in omega arith);
+    })

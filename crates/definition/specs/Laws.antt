@@ -1,18 +1,19 @@
--- Laws that hold of every state the walk reaches and of every plan: works are numbers or infinite, never negative; where whole works are given, the float works are
--- these numbers; the states that the Rust guards against never occur; and the outputs fit the lent buffers.
+-- Laws that hold of every state the walk reaches and of every plan: works are numbers or infinite, never negative; whole works are given exactly where
+-- the width never passes 38, and there the float works are these numbers; the states that the Rust guards against never occur; and the outputs fit the lent buffers.
 use Prim.Native.Nat.{ℕ, _+_, _*_, _^_, _≤_, _<_}
 use mathlib.Core.Path.{_≡_}
-use mathlib.Core.List.{[]}
+use mathlib.Core.List.{List, []}
 use mathlib.Core.Bool.{Bool}
 use lib.IntN.{ℤ, pos}
-use lib.ListN.{length, getD}
+use lib.ListN.{length, getD, take}
 use lib.Ieee.{Float, inf, fin, binary64, ofInt, toBits}
 use lib.Ieee.Exact.{HasValue}
+use Rattle.records.specs.declared.Instruction.{Instruction}
 use Rattle.definition.specs.Components.{membersOf, sizeOf}
 use Rattle.definition.specs.WholeWorks.{WholeWorks, tooWide, withoutQuotient, withQuotient}
 use Rattle.definition.specs.Walk.{Walk, Written, joinOf}
 use Rattle.definition.specs.Plan.{Plan, Lengths}
-use Rattle.definition.specs.Connectivity.{Member}
+use Rattle.definition.specs.Connectivity.{Member, activeStart, activeAfter}
 
 -- neither a NaN nor negative; 0 is +0
 pub data NonNegative : Float → Type 0 where
@@ -36,6 +37,11 @@ abbrev pub Agree : WholeWorks → Float → Float → Type 0
 Agree tooWide dense component = Unit
 Agree (withoutQuotient d) dense component = IsWhole dense d × IsWhole component 0
 Agree (withQuotient d c quotient remainder) dense component = IsWhole dense d × IsWhole component c × (d ≡ quotient * c + remainder) × (remainder < c)
+
+-- "Where the active width, at the start and after each record, never passes 38", by 01's section 5: the roll after m records, read off the instructions alone
+pub record TooWideExactly (initial : ℕ) (is : List Instruction) (works : WholeWorks) : Type 0 where
+  pub passes : works ≡ tooWide → (m : ℕ) × (m ≤ length is) × (38 < length (activeAfter (activeStart initial) (take m is) .order))
+  pub marked : (m : ℕ) → m ≤ length is → 38 < length (activeAfter (activeStart initial) (take m is) .order) → works ≡ tooWide
 
 -- What the Rust guards against and 01 gives no number: a state where any of these fails is never met. An active coordinate has a number that was given out
 -- (the Rust's "invalid active coordinate") and stands in a component ("active coordinate without a component"); a component's members, joined or not, are

@@ -93,6 +93,7 @@ measurementRow component offset count k deactivated =
 
 -- ---- a join, before a rotation or a flag-0 measurement
 
+-- `work` is the component work with the joining cost added, and `cost` that cost as a whole number
 pub record Join : Type 0 where
   pub sources : List ℕ
   pub component : ℕ
