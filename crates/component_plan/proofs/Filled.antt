@@ -13,7 +13,7 @@ use lib.Seq.{take-append-le, take-length}
 use Rattle.records.specs.Record.{instructionsOf}
 use Rattle.records.proofs.Laws.{instructions-length}
 use Rattle.definition.specs.Lists.{concat}
-use Rattle.definition.specs.WholeWorks.{WholeSums, WholeWorks, tooWide, quotientOf, wholeWorksOf}
+use Rattle.definition.specs.WholeWorks.{WholeSums, tooWide, quotientOf, wholeWorksOf}
 use Rattle.definition.specs.Walk.{Walk, start}
 use Rattle.definition.specs.Plan.{planned, planFrom, padded, groupsOf}
 use Rattle.definition.proofs.Steps.{Run}

@@ -3,13 +3,13 @@
 use mathlib.Core.Path.{_≡_, refl, sym, ap, _∙_, subst}
 use mathlib.Core.Bool.{Bool, true, false, cond}
 use mathlib.Core.List.{List, [], _∷_}
-use Prim.Native.Nat.{ℕ, zero, suc, _+_, _*_, _^_, _≤_, _<_}
+use Prim.Native.Nat.{ℕ, _+_, _*_, _^_, _≤_}
 use native.Mathlib.Nat.{zero-add, mul-pos}
 use native.Mathlib.Omega.{arith}
 use lib.Dec.{leb}
 use lib.Pow.{pow-mono}
-use lib.IntN.{ℤ, pos}
-use lib.Ieee.{Float, nan, inf, fin, binary64, up, down, round, sum, add, mul, ofInt}
+use lib.IntN.{pos}
+use lib.Ieee.{Float, nan, inf, fin, binary64, up, down, sum, add, mul, ofInt}
 use lib.Ieee.Exact.{HasValue}
 use lib.Ieee.Fits.{down-pos}
 use lib.Ieee.Scale.{round-same}
@@ -24,7 +24,7 @@ abbrev pub wholeFloat : ℕ → Float
 wholeFloat n = ofInt binary64 (pos n)
 
 -- which has its value up to 2 ^ 53
-pub whole-value : (n : ℕ) → n ≤ 2 ^ 53 → HasValue (wholeFloat n) false n 1
+whole-value : (n : ℕ) → n ≤ 2 ^ 53 → HasValue (wholeFloat n) false n 1
 unfolding ofInt
 whole-value n h = round-whole binary64 false n h
 

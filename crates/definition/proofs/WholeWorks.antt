@@ -4,13 +4,13 @@
 use mathlib.Core.Path.{_≡_, refl, sym, ap, _∙_, subst}
 use mathlib.Core.Bool.{Bool, true, false, cond, not}
 use mathlib.Core.Logic.{_⊎_, inl, inr, ⊎-elim}
-use mathlib.Core.List.{List, [], _∷_, _++_}
+use mathlib.Core.List.{List, [], _∷_}
 use Prim.Native.Nat.{ℕ, zero, suc, _+_, _*_, _/_, _%_, _^_, _≤_, _<_, max}
 use native.Mathlib.Omega.{arith}
 use native.Mathlib.Nat.{add-zero, add-suc, suc-add, add-assoc, div-add-mod, mod-lt}
 use lib.Dec.{ltb, eqb}
 use lib.ListN.{length, getD, take, length-append}
-use lib.Pow.{pow-mono, pow-add}
+use lib.Pow.{pow-mono}
 use lib.IntN.{pos}
 use lib.Ieee.{Float, fin, binary64, add, mul, ofInt, toBits}
 use borrow.Author.Tests.{ltb-true, ltb-false, lt-ltb, eqb-true, eqb-false}
@@ -20,19 +20,19 @@ use Rattle.records.specs.declared.Head.{Head}
 use Rattle.records.specs.declared.Instruction.{Instruction}
 use Rattle.records.proofs.Laws.{instructions-length}
 use Rattle.definition.specs.Components.{sizeOf, twoF, gathered, amplitudes, liveDimension, joiningCost}
-use Rattle.definition.specs.WholeWorks.{WholeSums, wholeCostFrom, wholeJoiningCost, WholeWorks, tooWide, withoutQuotient, withQuotient, quotientOf, wholeWorksOf}
+use Rattle.definition.specs.WholeWorks.{WholeSums, wholeCostFrom, wholeJoiningCost, tooWide, withoutQuotient, withQuotient, quotientOf, wholeWorksOf}
 use Rattle.definition.specs.Walk.{Walk, joinOf, start, noStep, ignoredStep, promotionStep, rotationStep, measurementStep}
 use Rattle.definition.specs.Plan.{Lengths, Plan, planned, unread, unreadPlan, planFrom, planOf}
 use Rattle.definition.specs.Connectivity.{Member, ActiveOrder, activeStart, activeStep, activeAfter}
 use Rattle.definition.specs.Laws.{IsWhole, Agree, TooWideExactly}
-use Rattle.definition.proofs.Counting.{member-head, member-tail, length-removeAt, length-numbers}
+use Rattle.definition.proofs.Counting.{member-head, member-tail}
 use Rattle.definition.proofs.Steps.{Stepped, ignored, rotated, promoted, measured, recorded, detected, expected, branched, Run, done, more}
 use Rattle.definition.proofs.Invariant.{sources-once, source-below}
 use Rattle.definition.proofs.Tracking.{Tracked, activeOf, tracked-here, tracked-join, step-tracked, start-tracked}
 use Rattle.definition.proofs.Accepted.{Accepted, accepted}
 use Rattle.definition.proofs.Room.{or-false, emptied-total, joined-total, holds-live, unread-planned}
 use Rattle.definition.proofs.States.{tracked-whole}
-use Rattle.definition.proofs.WholeFloats.{wholeFloat, whole-value, value-of, add-whole, power-value, double-value, joining-whole}
+use Rattle.definition.proofs.WholeFloats.{wholeFloat, value-of, add-whole, power-value, double-value, joining-whole}
 
 -- ---- what a join adds
 

@@ -1,5 +1,5 @@
 -- `tally::double_low` meets its contract: twice a power below 2 ^ 63 is the next power, and of twice a larger one nothing is left.
-use mathlib.Core.Path.{_≡_, sym, _∙_}
+use mathlib.Core.Path.{sym, _∙_}
 use native.Mathlib.Omega.{arith}
 use Rattle.tally.proofs.Sums.{double-kept, double-gone}
 use borrow.Author.Needs.{needs}

@@ -1,5 +1,5 @@
 -- `tally::power_low` meets its contract: a power below 2 ^ 64 is itself, and of a larger one nothing is left.
-use mathlib.Core.Path.{_≡_, sym, _∙_}
+use mathlib.Core.Path.{sym, _∙_}
 use native.Mathlib.Omega.{arith}
 use native.Mathlib.Nat.{mod-eq-of-lt}
 use lib.Pow.{pow-lt}

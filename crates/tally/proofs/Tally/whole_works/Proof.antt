@@ -1,6 +1,4 @@
 -- `tally::Tally::whole_works` meets its contract: each branch is the case that its tests tell.
-use mathlib.Core.Path.{_≡_, refl, sym, ap, _∙_}
-use mathlib.Core.Bool.{Bool, cond}
 use native.Mathlib.Omega.{arith}
 use borrow.Author.Tests.{lt-ltb, le-ltb, eq-eqb, ne-eqb}
 use Rattle.definition.specs.WholeWorks.{wholeWorksOf}
