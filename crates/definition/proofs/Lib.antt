@@ -20,6 +20,7 @@ pub mod Room
 pub mod States
 pub mod WholeWorks
 pub mod Sizes
+pub mod Words
 pub mod Connected
 pub mod Padded
 pub mod Worked

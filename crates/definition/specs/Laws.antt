@@ -1,8 +1,9 @@
 -- Laws that hold of every state the walk reaches and of every plan: works are numbers or infinite, never negative; whole works are given exactly where
--- the width never passes 38, and there the float works are these numbers; the states that the Rust guards against never occur; and the outputs fit the lent buffers.
+-- the width never passes 38, and there the float works are these numbers; the states that the Rust guards against never occur; the outputs fit the
+-- lent buffers; and every word of a plan is below 2 ^ 64.
 use Prim.Native.Nat.{ℕ, _+_, _*_, _^_, _≤_, _<_}
 use mathlib.Core.Path.{_≡_}
-use mathlib.Core.List.{List, []}
+use mathlib.Core.List.{List, [], _∷_}
 use mathlib.Core.Bool.{Bool}
 use lib.IntN.{ℤ, pos}
 use lib.ListN.{length, getD, take}
@@ -11,7 +12,7 @@ use lib.Ieee.Exact.{HasValue}
 use Rattle.records.specs.declared.Instruction.{Instruction}
 use Rattle.definition.specs.Components.{membersOf, sizeOf}
 use Rattle.definition.specs.WholeWorks.{WholeWorks, tooWide, withoutQuotient, withQuotient}
-use Rattle.definition.specs.Walk.{Walk, Written, joinOf}
+use Rattle.definition.specs.Walk.{Walk, Written, bitsWord, joinOf}
 use Rattle.definition.specs.Plan.{Plan, Lengths}
 use Rattle.definition.specs.Connectivity.{Member, activeStart, activeAfter}
 
@@ -79,3 +80,24 @@ pub record FitsIn (p : Plan) (l : Lengths) : Type 0 where
   pub promotions : length (p .promotions) ≤ l .promotions
   pub measurements : length (p .measurements) ≤ l .measurements
   pub groups : length (p .groups) ≤ l .groups
+
+-- 02, CR 2: "a run of 64-bit ... words": every entry is one
+abbrev pub Words : List ℕ → Type 0
+Words [] = Unit
+Words (w ∷ ws) = (w < 2 ^ 64) × Words ws
+
+-- every word of a plan's first six outputs and of its scalar fields, the works as bits
+pub record PlanWords (p : Plan) : Type 0 where
+  pub steps : Words (p .steps)
+  pub merges : Words (p .merges)
+  pub sizes : Words (p .sizes)
+  pub rotations : Words (p .rotations)
+  pub promotions : Words (p .promotions)
+  pub measurements : Words (p .measurements)
+  pub initialComponents : p .initialComponents < 2 ^ 64
+  pub componentCount : p .componentCount < 2 ^ 64
+  pub denseWork : bitsWord (p .denseWork) < 2 ^ 64
+  pub componentWork : bitsWord (p .componentWork) < 2 ^ 64
+  pub densePeak : p .densePeak < 2 ^ 64
+  pub peak : p .peak < 2 ^ 64
+  pub allocated : p .allocated < 2 ^ 64
