@@ -23,6 +23,8 @@ use Rattle.definition.proofs.Room.{longest-count, steps-count, rows-most}
 use Rattle.walk.specs.declared.Summary.{Summary}
 use Rattle.walk.specs.Walking.{Buffers, Begins, Ended, SameLengths}
 use Rattle.lent.specs.Lent.{Held, RestCleared, UsedFit, clearedFrom}
+use Rattle.outputs.specs.declared.WordCounts.{WordCounts}
+use Rattle.component_plan.specs.Answer.{usedIn}
 
 -- one buffer of m words: ws stand in front, n of them, and what follows is zeroed
 pub cleared-is-padded : (m n : ℕ) (ws walked after : List ℕ) → length walked ≡ m → n ≡ length ws → Begins ws walked → after ≡ clearedFrom n walked
@@ -90,6 +92,26 @@ module _ {limit : ℕ} (k : ℕ) (ws : List ℕ) (w : Walk) (run : Run limit (st
   -- as many sizes as components
   pub size-words : s .count ≡ length (w .longest)
   size-words = ended .count ∙ sym (longest-count k run)
+
+  -- the used words are counted
+  pub used-same : (densePeak : ℕ)
+      → _≡_ {A = WordCounts} (record {
+        steps = 2 * (length ws / 8);
+        merges = s .tally .merges;
+        sizes = s .count;
+        rotations = 21 * s .tally .rotations;
+        promotions = s .tally .promotions;
+        measurements = 19 * s .tally .measurements;
+      }) (usedIn (planFrom k densePeak w))
+  unfolding planFrom
+  used-same densePeak i = record {
+    steps = step-words i;
+    merges = ended .sums .merges i;
+    sizes = size-words i;
+    rotations = rotation-words i;
+    promotions = ended .sums .promotions i;
+    measurements = measurement-words i;
+  }
 
   -- all seven
   pub walk-held : (densePeak : ℕ) (before after : Buffers) → SameLengths before walked → RestCleared s (length ws / 8) walked after

@@ -29,7 +29,8 @@ use Rattle.walk.specs.declared.Walked as Declared
 use Rattle.walk.specs.declared.Walked.the-variants as W
 use Rattle.walk.specs.Walking.{Buffers, lengthsOf, Ended, WalkEnds, SameLengths}
 use Rattle.lent.specs.Lent.{Held, lentNumber}
-use Rattle.component_plan.specs.Answer.{accepted, turnedAway, outcomeOf, outcomeIn, Answers, ReadAnswers}
+use Rattle.outputs.specs.declared.WordCounts.{WordCounts}
+use Rattle.component_plan.specs.Answer.{accepted, turnedAway, outcomeOf, usedIn, outcomeIn, Answers, ReadAnswers}
 
 -- ---- refusals 2 to 4
 
@@ -112,20 +113,23 @@ read-planned limit h densePeak ws before after p r e answer held = record {
 }
 
 -- the scalar fields of a finished walk, and its whole works
-pub plan-same : (initial densePeak : ℕ) (w : Walk) (s : Summary) (b : Buffers) (allocated : ℕ) (whole : WholeWorks) (r : ActiveComponentPlan) → Ended w s b
+pub plan-same : (initial densePeak : ℕ) (w : Walk) (s : Summary) (b : Buffers) (allocated : ℕ) (whole : WholeWorks) (used : WordCounts) (r : ActiveComponentPlan)
+    → Ended w s b
     → allocated ≡ allocatedFor (w .longest)
     → whole ≡ wholeWorksOf (w .whole)
+    → used ≡ usedIn (planFrom initial densePeak w)
     → outcomeOf (P.Plan r)
     ≡ accepted (chosen (s .tally .quantum) (s .tally .dense) (s .tally .work) allocated densePeak) initial (s .count) (s .tally .dense) (s .tally .work) densePeak
-    (s .tally .peak) allocated whole
+    (s .tally .peak) allocated whole used
     → outcomeOf (P.Plan r) ≡ outcomeIn (planned (planFrom initial densePeak w))
 unfolding planFrom
-plan-same initial densePeak w s b allocated whole r ended all same e =
-    e ∙ fields (ended .sums .quantum) (ended .sums .dense) (ended .sums .work) all (ended .count) (ended .sums .peak) same
+plan-same initial densePeak w s b allocated whole used r ended all same counted e =
+    e ∙ fields (ended .sums .quantum) (ended .sums .dense) (ended .sums .work) all (ended .count) (ended .sums .peak) same counted
   where
-    fields : {q q' : ℕ} {d d' v v' : _} {a a' n n' p p' : ℕ} {x x' : WholeWorks} → q ≡ q' → d ≡ d' → v ≡ v' → a ≡ a' → n ≡ n' → p ≡ p' → x ≡ x'
-        → accepted (chosen q d v a densePeak) initial n d v densePeak p a x ≡ accepted (chosen q' d' v' a' densePeak) initial n' d' v' densePeak p' a' x'
-    fields q d v a n p x i = accepted (chosen (q i) (d i) (v i) (a i) densePeak) initial (n i) (d i) (v i) densePeak (p i) (a i) (x i)
+    fields : {q q' : ℕ} {d d' v v' : _} {a a' n n' p p' : ℕ} {x x' : WholeWorks} {u u' : WordCounts} → q ≡ q' → d ≡ d' → v ≡ v' → a ≡ a' → n ≡ n' → p ≡ p' → x ≡ x'
+        → u ≡ u'
+        → accepted (chosen q d v a densePeak) initial n d v densePeak p a x u ≡ accepted (chosen q' d' v' a' densePeak) initial n' d' v' densePeak p' a' x' u'
+    fields q d v a n p x u i = accepted (chosen (q i) (d i) (v i) (a i) densePeak) initial (n i) (d i) (v i) densePeak (p i) (a i) (x i) (u i)
 
 -- and of a plan that read nothing
 pub unread-same : (initial densePeak : ℕ) (r : ActiveComponentPlan)
@@ -140,6 +144,7 @@ pub unread-same : (initial densePeak : ℕ) (r : ActiveComponentPlan)
       «component_peak_live_dimension» = 0;
       «component_allocated_dimension» = 0;
       «whole_works» = Whole.WithoutQuotient 0;
+      used = record { steps = 0; merges = 0; sizes = 0; rotations = 0; promotions = 0; measurements = 0 };
     }
     → outcomeOf (P.Plan r) ≡ outcomeIn (planned (unreadPlan initial densePeak))
 unfolding unreadPlan
@@ -198,7 +203,7 @@ answers limit h ws before after result r e answer held = record {
 }
 
 -- a refusal's outcome is a refusal's
-away : (result : Result) (number index : ℕ) → turnedAway number index ≡ outcomeIn result → result ≡ refusedAt number index
+pub away : (result : Result) (number index : ℕ) → turnedAway number index ≡ outcomeIn result → result ≡ refusedAt number index
 away (planned p) number index e = let z : _≡_ {A = ℕ} 0 1 = cc in absurd (omega arith)
 away (refusedAt n i) number index e = let same : n ≡ number = cc in let at : i ≡ index = cc in ap₂ refusedAt same at
 

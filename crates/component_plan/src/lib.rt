@@ -4,7 +4,9 @@ ghost use mathlib.Core.Bool.{false};
 ghost use lib.IntN.{pos};
 ghost use lib.Ieee.{fin};
 ghost use Rattle.definition.specs.WholeWorks.{wholeWorksOf};
+ghost use Prim.Native.Nat.{_*_};
 ghost use Rattle.definition.specs.Plan.{chosen};
+ghost use Rattle.lent.specs.Lent.{UsedFit};
 ghost use Rattle.component_plan.specs.Answer.{Answers, ReadAnswers, accepted, outcomeOf};
 use kernels::bits::ActiveLength;
 use kernels::bits::active_length;
@@ -13,6 +15,7 @@ use lent::choose;
 use lent::clear_all;
 use lent::clear_rest;
 use lent::lent_number;
+use outputs::WordCounts;
 use outputs::buffers::allocated;
 use records::Checked;
 use records::Head;
@@ -25,7 +28,7 @@ use walk::walk;
 // The dimension's limit: a component of so many members is too large.
 const LIMIT: u64 = 62;
 
-// The scalar fields of a plan, and its works as whole numbers.
+// The scalar fields of a plan, its works as whole numbers, and how many words of the first six outputs it uses.
 pub struct ActiveComponentPlan {
     pub selected: bool,
     pub initial_components: u64,
@@ -36,6 +39,7 @@ pub struct ActiveComponentPlan {
     pub component_peak_live_dimension: u64,
     pub component_allocated_dimension: u64,
     pub whole_works: WholeWorks,
+    pub used: WordCounts,
 }
 
 // The answer: a plan's scalar fields, or the first refusal's number and record index.
@@ -56,6 +60,7 @@ fn unread_plan(initial_k: u64, dense_peak: u64) -> ActiveComponentPlan
       «component_peak_live_dimension» = 0;
       «component_allocated_dimension» = 0;
       «whole_works» = WholeWorks.WithoutQuotient 0;
+      used = record { steps = 0; merges = 0; sizes = 0; rotations = 0; promotions = 0; measurements = 0 };
     } ⌝ }
 {
     ActiveComponentPlan {
@@ -68,14 +73,30 @@ fn unread_plan(initial_k: u64, dense_peak: u64) -> ActiveComponentPlan
         component_peak_live_dimension: 0,
         component_allocated_dimension: 0,
         whole_works: WholeWorks::WithoutQuotient { dense: 0 },
+        used: WordCounts {
+            steps: 0,
+            merges: 0,
+            sizes: 0,
+            rotations: 0,
+            promotions: 0,
+            measurements: 0,
+        },
     }
 }
 
-// The scalar fields of a finished walk's plan.
-fn plan_of(initial_k: u64, dense_peak: u64, done: Summary, allocated: u64) -> ActiveComponentPlan
+// The scalar fields of the plan of a finished walk over n records.
+fn plan_of(
+    initial_k: u64,
+    dense_peak: u64,
+    done: Summary,
+    n: usize,
+    allocated: u64,
+) -> ActiveComponentPlan
+    requires { ⌜ UsedFit done n ⌝ }
     ensures { λ r. ⌜ outcomeOf (Planned.Plan r)
         ≡ accepted (chosen (done .tally .quantum) (done .tally .dense) (done .tally .work) allocated «dense_peak») «initial_k» (done .count) (done .tally .dense) (done .tally .work) «dense_peak» (done .tally .peak) allocated
-        (wholeWorksOf (record { dense = done .tally .«whole_dense»; component = done .tally .«whole_work»; widest = done .tally .widest })) ⌝ }
+        (wholeWorksOf (record { dense = done .tally .«whole_dense»; component = done .tally .«whole_work»; widest = done .tally .widest }))
+        (record { steps = 2 * n; merges = done .tally .merges; sizes = done .count; rotations = 21 * done .tally .rotations; promotions = done .tally .promotions; measurements = 19 * done .tally .measurements }) ⌝ }
 {
     let tally = done.tally;
     ActiveComponentPlan {
@@ -94,6 +115,14 @@ fn plan_of(initial_k: u64, dense_peak: u64, done: Summary, allocated: u64) -> Ac
         component_peak_live_dimension: tally.peak,
         component_allocated_dimension: allocated,
         whole_works: tally.whole_works(),
+        used: WordCounts {
+            steps: 2 * n,
+            merges: tally.merges,
+            sizes: done.count,
+            rotations: 21 * tally.rotations,
+            promotions: tally.promotions,
+            measurements: 19 * tally.measurements,
+        },
     }
 }
 
@@ -161,7 +190,7 @@ fn plan_read(
                     );
                     let count = done.count;
                     let all = allocated(&sizes[..count]);
-                    Planned::Plan(plan_of(initial_k, dense_peak, done, all))
+                    Planned::Plan(plan_of(initial_k, dense_peak, done, n, all))
                 }
             }
         }

@@ -13,12 +13,12 @@ use Rattle.component_plan.specs.Answer.{Outcome, accepted, turnedAway, outcomeI
 
 -- 0 for a plan, else the refusal's number
 abbrev pub numberOf : Outcome → ℕ
-numberOf (accepted selected initial count dense component densePeak peak allocated whole) = 0
+numberOf (accepted selected initial count dense component densePeak peak allocated whole used) = 0
 numberOf (turnedAway number index) = number
 
 -- the refusal's record index, 0 for a plan; then "the eight scalar fields in order", works as bits; then the five words of the whole works
 abbrev pub wordsOf : Outcome → List ℕ
-wordsOf (accepted selected initial count dense component densePeak peak allocated whole) =
+wordsOf (accepted selected initial count dense component densePeak peak allocated whole used) =
     0 ∷ flagWord selected ∷ initial ∷ count ∷ bitsWord dense ∷ bitsWord component ∷ densePeak ∷ peak ∷ allocated ∷ wholeWords whole
 wordsOf (turnedAway number index) = index ∷ []
 

@@ -18,7 +18,7 @@ use Rattle.definition.proofs.Steps.{Run, run-of-walk}
 use Rattle.walk.specs.Walking.{Buffers, lengthsOf, Walkable, Ended, SameLengths}
 use Rattle.lent.specs.Lent.{Held, lentNumber}
 use Rattle.definition.proofs.Sizes.{reached-longest}
-use Rattle.component_plan.proofs.Filled.{front-fits, front-of-padded, used-fit, whole-same, size-words, walk-held}
+use Rattle.component_plan.proofs.Filled.{front-fits, front-of-padded, used-fit, used-same, whole-same, size-words, walk-held}
 use Rattle.component_plan.proofs.Refusals.{lent-refused, lent-words, lent-few, lent-room, lent-initial, lent-passed, walk-stops, walk-finishes, read-refused, read-planned, plan-same}
 use Rattle.component_plan.proofs.plan_read.Statement.{statement}
 use Rattle.component_plan.proofs.plan_read.Tie as tie
@@ -209,7 +209,12 @@ allocated-requires c κs =
     λ i h. subst (λ (l : List ℕ). getD l i 0 < 64) (sym (sizes-front (c .before .before .before .before .before .before .before .before .before .before .before .before .before .before .before))) (reached-longest (walk-start (w .before .before .before .before .before .before .before .before .before .before .before .before .before .before .before .before) .args .head .«initial_k») (run w) i)
 
 plan-of-requires : tie.Need-plan-of-requires
-plan-of-requires c κs = search needs
+plan-of-requires c κs =
+    let w = c .before .before .before .before .before .before .before .before .before .before .before .before .before .before .before .before .before .before .before .before .before .before .before .before .before in
+    let s = walk-start (w .before .before .before .before .before .before .before .before .before .before .before .before .before .before .before .before) in
+    let n = w .before .before .before .before .before .before .before .before .before .before .before .before .before .before .before .before .before .before .before .before .before .before .before .before .before .before .before .before in
+    used-fit (s .args .head .«initial_k») (words-of s) (ended w .0) (run w) (w .walked2 .given .0 .0) (walked-of (w .before .before .before .before .before .before .before .before .before .before .before .before .before .before .before .before)) (ended w .2)
+    (lent-few (s .args .limit) (s .args .head) (words-of s) (lengthsOf (before-of s)) (s .args .dense-peak) _ (lent n) (w .before .before .before .before .before .before .before .before .before .before .before .before .before .before .before .before .before .before .before .before .before .before .before .before .before .before .before .if1 .left))
 
 returns-2 : tie.Need-returns-2
 returns-2 c =
@@ -282,10 +287,11 @@ returns-4 c =
     let a = s .args in
     read-planned (a .limit) (a .head) (a .dense-peak) (words-of s) (before-of s) (cleared-of cleared) (planFrom (a .head .«initial_k») (a .dense-peak) (ended w .0)) _
     (read-walk (walked .before .before .before .before .before .before .before .before) ∙ ap (afterWalk (a .head .«initial_k») (a .dense-peak)) (ended w .1))
-    (plan-same (a .head .«initial_k») (a .dense-peak) (ended w .0) (w .walked2 .given .0 .0) (walked-of walked) (c .before .allocated .result) _ (c .plan-of .result) (ended w .2)
+    (plan-same (a .head .«initial_k») (a .dense-peak) (ended w .0) (w .walked2 .given .0 .0) (walked-of walked) (c .before .allocated .result) _ _ (c .plan-of .result) (ended w .2)
     (c .before .allocated .ensures ∙ ap allocatedFor (sizes-front cleared))
     (whole-same (a .head .«initial_k») (words-of s) (ended w .0) (run w) (w .walked2 .given .0 .0) (walked-of walked) (ended w .2)
     (lent-few (a .limit) (a .head) (words-of s) (lengthsOf (before-of s)) (a .dense-peak) _ (lent n) (w .before .before .before .before .before .before .before .before .before .before .before .before .before .before .before .before .before .before .before .before .before .before .before .before .before .before .before .if1 .left)))
+    (used-same (a .head .«initial_k») (words-of s) (ended w .0) (run w) (w .walked2 .given .0 .0) (walked-of walked) (ended w .2) (a .dense-peak))
     (c .plan-of .ensures))
     (held cleared)
 

@@ -1,0 +1,70 @@
+-- What the contract of `store` says: its answer, the seven buffers and every byte of the file. Written from 02, CR 2.
+use Prim.Native.Nat.{ℕ, _+_, _*_, _≤_, _^_, _<_}
+use mathlib.Core.Path.{_≡_}
+use mathlib.Core.List.{List, [], _∷_}
+use lib.Dec.{ltb}
+use lib.ListN.{length}
+use Rattle.records.specs.declared.Head.{Head}
+use Rattle.definition.specs.Walk.{flagWord, bitsWord}
+use Rattle.definition.specs.Plan.{Lengths, Plan, Result, planned, refusedAt, refuseAll, planOf, heldAfter}
+use Rattle.outputs.specs.declared.WordCounts.{WordCounts}
+use Rattle.walk.specs.Walking.{Buffers, lengthsOf}
+use Rattle.lent.specs.Lent.{Held}
+use Rattle.component_plan.specs.declared.ActiveComponentPlan.{ActiveComponentPlan}
+use Rattle.stored_plan.specs.Stored.{Kept, fileOf}
+use Rattle.store.specs.declared.Stored.{Stored}
+use Rattle.store.specs.declared.Stored.the-variants as S
+
+-- "Planning's refusals come first, then 23 for a short file buffer", of n bytes
+abbrev pub fitting : ℕ → Result → Result
+fitting n (planned p) = refuseAll (ltb n (length (fileOf p))) 23 (planned p)
+fitting n (refusedAt number index) = refusedAt number index
+
+-- what storing gives for a head, the record words, the lengths of the lent buffers and that of the file
+abbrev pub storeOf : ℕ → Head → List ℕ → Lengths → ℕ → Result
+storeOf limit h ws l n = fitting n (planOf limit h ws l)
+
+-- "The writer returns the file's length", or the refusal's number and record index
+pub data Outcome : Type 0 where
+  written : (length : ℕ) → Outcome
+  turnedAway : (number index : ℕ) → Outcome
+
+-- of the code's answer
+abbrev pub outcomeOf : Stored → Outcome
+outcomeOf (S.File n) = written n
+outcomeOf (S.Refused number index) = turnedAway number index
+
+-- of the definition's result
+abbrev pub outcomeIn : Result → Outcome
+outcomeIn (planned p) = written (length (fileOf p))
+outcomeIn (refusedAt number index) = turnedAway number index
+
+-- the answer, every buffer and every byte of the file are the definition's: "Unused bytes and words, and after a refusal all outputs and the writer's file, are zero"
+pub record Stores (limit : ℕ) (h : Head) (ws : List ℕ) (before after : Buffers) (file filed : List ℕ) (r : Stored) : Type 0 where
+  pub answer : outcomeOf r ≡ outcomeIn (storeOf limit h ws (lengthsOf before) (length file))
+  pub held : Held (storeOf limit h ws (lengthsOf before) (length file)) before after
+  pub bytes : filed ≡ heldAfter (length file) fileOf (storeOf limit h ws (lengthsOf before) (length file))
+
+-- ---- what the functions below `store` say
+
+-- the eight scalar words of the planner's answer
+abbrev pub scalarsIn : ActiveComponentPlan → List ℕ
+scalarsIn p =
+    flagWord (p .selected) ∷ p .«initial_components» ∷ p .«component_count» ∷ bitsWord (p .«estimated_dense_work») ∷ bitsWord (p .«estimated_component_work»)
+    ∷ p .«dense_peak_dimension» ∷ p .«component_peak_live_dimension» ∷ p .«component_allocated_dimension» ∷ []
+
+-- the words of a file whose sections have these counts
+abbrev pub wordsFor : WordCounts → ℕ
+wordsFor used = used .steps + used .merges + used .sizes + used .rotations + used .promotions + used .measurements + 24
+
+-- starts and counts of the seven sections, the file's length in bytes, and the version
+abbrev pub trailerFor : WordCounts → List ℕ
+trailerFor used =
+    let merges = used .steps in
+    let sizes = merges + used .merges in
+    let rotations = sizes + used .sizes in
+    let promotions = rotations + used .rotations in
+    let measurements = promotions + used .promotions in
+    let scalars = measurements + used .measurements in
+    0 ∷ used .steps ∷ merges ∷ used .merges ∷ sizes ∷ used .sizes ∷ rotations ∷ used .rotations ∷ promotions ∷ used .promotions
+    ∷ measurements ∷ used .measurements ∷ scalars ∷ 8 ∷ 8 * (scalars + 24) ∷ 1 ∷ []
