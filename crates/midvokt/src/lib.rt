@@ -1,4 +1,7 @@
-// The library as C and Rust link it: one function, plain words in and out. include/midvokt.h has its declaration.
+// The library as C and Rust link it: plain words in and out. Planning stands here, storing and reading plans in `stored`;
+// include/midvokt.h has the declarations.
+pub mod stored;
+
 ghost use mathlib.Core.Path.{_≡_};
 ghost use lib.ListN.{length, getD};
 ghost use Rattle.definition.specs.WholeWorks.{wholeWords};

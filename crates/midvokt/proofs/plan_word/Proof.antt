@@ -48,13 +48,13 @@ whole-word-requires : tie.Need-whole-word-requires
 whole-word-requires c κs = search needs
 
 returns-2 : tie.Need-returns-2
-returns-2 c = search needs
+returns-2 c = rw (c .before .match .keys1) (c .flag-word .ensures)
 
 returns-3 : tie.Need-returns-3
-returns-3 c = search needs
+returns-3 c = rw (c .match .keys2) refl
 
 returns-4 : tie.Need-returns-4
-returns-4 c = search needs
+returns-4 c = rw (c .match .keys3) refl
 
 returns-5 : tie.Need-returns-5
 returns-5 c = rw (c .before .match .keys4) (c .float-bits .ensures)
@@ -63,13 +63,13 @@ returns-6 : tie.Need-returns-6
 returns-6 c = rw (c .before .match .keys5) (c .float-bits2 .ensures)
 
 returns-7 : tie.Need-returns-7
-returns-7 c = search needs
+returns-7 c = rw (c .match .keys6) refl
 
 returns-8 : tie.Need-returns-8
-returns-8 c = search needs
+returns-8 c = rw (c .match .keys7) refl
 
 returns-9 : tie.Need-returns-9
-returns-9 c = search needs
+returns-9 c = rw (c .match .keys8) refl
 
 returns-10 : tie.Need-returns-10
 returns-10 c =
