@@ -1,18 +1,25 @@
 /*
- * The C interface of Midvokt: one call that plans how a quantum-circuit simulator cuts one
- * wide register into small independent ones. Link libmidvokt.a. C99 and C++11.
+ * The C interface of Midvokt: three calls. midvokt_plan plans how a quantum-circuit simulator
+ * cuts one wide register into small independent ones. midvokt_store plans and also writes the
+ * plan as a file, to be kept; midvokt_load reads such a file back, so that a circuit that is
+ * used often is not planned each time. Link libmidvokt.a. C99 and C++11.
  *
- * The library is proved, for every input, to give the plan or the first refusal of its
- * definition, and to write every word of the lent buffers. What stands on this side of the
- * call is not proved and is trusted to the caller:
+ * The library is proved, for every input, to give the plan, the file or what the file holds,
+ * or the first refusal of its definition, and to write every word and byte of the lent
+ * buffers. What stands on this side of the calls is not proved and is trusted to the caller:
  *
- *   - each pointer is not null and is aligned for uint64_t, also where its length is 0;
- *   - each pointer has as many words behind it as its length says;
- *   - the seven outputs and the result overlap neither each other nor the records;
+ *   - each pointer is not null, also where its length is 0, and each pointer to words is
+ *     aligned for uint64_t; the bytes of a file need no alignment;
+ *   - each pointer has as many words, that of a file as many bytes, behind it as its length
+ *     says;
+ *   - the outputs, the result and a file that is written overlap neither each other nor what
+ *     is read, which is the records or the file that is loaded;
  *   - MIDVOKT_STACK_BYTES bytes of stack are left.
  *
- * All lengths are in words of 64 bits. The call keeps no memory and no state between calls,
- * allocates nothing, and may run in several threads at once, each with buffers of its own.
+ * A file's length is in bytes, all others are in words of 64 bits. No call keeps memory or
+ * state between calls, allocates anything or opens a file: what is called a file here are
+ * bytes in memory, and the caller keeps them. All may run in several threads at once, each
+ * call with buffers of its own.
  *
  *
  * Coordinates, positions, components
@@ -66,7 +73,7 @@ extern "C" {
 /* The project's version. */
 #define MIDVOKT_VERSION "0.3.0"
 
-/* Bytes of stack that a call needs, whatever its arguments. At its worst a call was measured
+/* Bytes of stack that each call needs, whatever its arguments. At its worst a call was measured
  * to use 13,448 of them on x86-64: 10,328 of its own, and 3,120 where the system looks up
  * memcpy only as the first call reaches it. It calls nothing back and does not recurse. */
 #define MIDVOKT_STACK_BYTES 16384
@@ -240,10 +247,101 @@ enum midvokt_whole_mark {
     MIDVOKT_WHOLE_WITH_QUOTIENT = 2     /* both works, quotient and remainder */
 };
 
-/* ---- The number that the call returns ------------------------------------------------ */
+/* ---- Stored plans: the words of a file ----------------------------------------------- */
+
+/* A file is a run of words of 64 bits, each as eight bytes, the lowest first. First come seven
+ * sections, in this order, from word 0 on, each right behind the one before it: the first six
+ * outputs, used words only, and the scalar fields. Behind them a trailer of sixteen words ends
+ * the file. The groups and the whole works are not stored.
+ *
+ *   steps         two words for each record
+ *   merges        the sources of all rows
+ *   sizes         one word for each component
+ *   rotations     21 words for each row
+ *   promotions    one word for each row
+ *   measurements  19 words for each row
+ *   scalars       eight words
+ *
+ * One plan has one file. A plan whose records are left unread (see midvokt_plan) has neither
+ * steps nor sizes: its file is the scalars and the trailer. */
+
+/* The section of the scalar fields: words 1 to 8 of midvokt_plan's result. */
+enum midvokt_scalar_word {
+    MIDVOKT_SCALAR_SELECTED = 0,
+    MIDVOKT_SCALAR_INITIAL_COMPONENTS = 1,
+    MIDVOKT_SCALAR_COMPONENT_COUNT = 2,
+    MIDVOKT_SCALAR_DENSE_WORK = 3,     /* bits of a double */
+    MIDVOKT_SCALAR_COMPONENT_WORK = 4, /* bits of a double */
+    MIDVOKT_SCALAR_DENSE_PEAK = 5,
+    MIDVOKT_SCALAR_PEAK = 6,
+    MIDVOKT_SCALAR_ALLOCATED = 7,
+    MIDVOKT_SCALAR_WORDS = 8
+};
+
+/* The trailer: where each section starts and how many words it has, then the file's length
+ * and its version. */
+enum midvokt_trailer_word {
+    MIDVOKT_TRAILER_STEPS_START = 0,
+    MIDVOKT_TRAILER_STEPS_COUNT = 1,
+    MIDVOKT_TRAILER_MERGES_START = 2,
+    MIDVOKT_TRAILER_MERGES_COUNT = 3,
+    MIDVOKT_TRAILER_SIZES_START = 4,
+    MIDVOKT_TRAILER_SIZES_COUNT = 5,
+    MIDVOKT_TRAILER_ROTATIONS_START = 6,
+    MIDVOKT_TRAILER_ROTATIONS_COUNT = 7,
+    MIDVOKT_TRAILER_PROMOTIONS_START = 8,
+    MIDVOKT_TRAILER_PROMOTIONS_COUNT = 9,
+    MIDVOKT_TRAILER_MEASUREMENTS_START = 10,
+    MIDVOKT_TRAILER_MEASUREMENTS_COUNT = 11,
+    MIDVOKT_TRAILER_SCALARS_START = 12,
+    MIDVOKT_TRAILER_SCALARS_COUNT = 13,
+    MIDVOKT_TRAILER_BYTES = 14,   /* the file's length in bytes */
+    MIDVOKT_TRAILER_VERSION = 15, /* MIDVOKT_FILE_VERSION */
+    MIDVOKT_TRAILER_WORDS = 16
+};
+
+/* The version of the file's form. */
+#define MIDVOKT_FILE_VERSION 1
+
+/* How many bytes are enough for the file of a plan of n records: eight for each of
+ *
+ *   2n        words of steps, two for each record,
+ *   n + 511   words of merges: one for each row's own component, and one for each component
+ *             that joins another, which all of 512 at most can do but one,
+ *   512       words of sizes, one for each component,
+ *   21n       words of rows: a record has one row at most, of 21, 19 or 1 words,
+ *   8 and 16  words of scalars and trailer. */
+#define MIDVOKT_FILE_BYTES(n)                                                              \
+    ((size_t)8 * (MIDVOKT_STEPS_WORDS(n) + MIDVOKT_MERGES_WORDS(n) - 1 +                   \
+                  MIDVOKT_SIZES_WORDS(n) + MIDVOKT_ROTATIONS_WORDS(n) +                    \
+                  MIDVOKT_SCALAR_WORDS + MIDVOKT_TRAILER_WORDS))
+
+/* The result of midvokt_store. After a refusal word 1 is 0. A shorter result gets its first
+ * words, and words behind the second are zero. */
+enum midvokt_store_result_word {
+    MIDVOKT_STORE_RESULT_INDEX = 0, /* the refused record; 0 for a stored plan */
+    MIDVOKT_STORE_RESULT_BYTES = 1  /* the file's length in bytes */
+};
+#define MIDVOKT_STORE_RESULT_WORDS 2
+
+/* The result of midvokt_load: word 0 is always 0, words 1 to 8 are the scalar fields, as
+ * MIDVOKT_RESULT_SELECTED to MIDVOKT_RESULT_ALLOCATED name them, and words 9 to 14 are the
+ * counts of the other six sections, in words. After a refusal all are 0. A shorter result gets
+ * its first words, and words behind the fifteenth are zero. */
+enum midvokt_load_result_word {
+    MIDVOKT_LOAD_RESULT_STEPS = 9,
+    MIDVOKT_LOAD_RESULT_MERGES = 10,
+    MIDVOKT_LOAD_RESULT_SIZES = 11,
+    MIDVOKT_LOAD_RESULT_ROTATIONS = 12,
+    MIDVOKT_LOAD_RESULT_PROMOTIONS = 13,
+    MIDVOKT_LOAD_RESULT_MEASUREMENTS = 14
+};
+#define MIDVOKT_LOAD_RESULT_WORDS 15
+
+/* ---- The number that each call returns ----------------------------------------------- */
 
 enum midvokt_number {
-    MIDVOKT_PLANNED = 0,                     /* there is a plan */
+    MIDVOKT_PLANNED = 0,                     /* there is a plan, and what was asked is done */
     /* the head and the buffers; the index is 0 */
     MIDVOKT_REFUSED_MAX_K = 1,               /* max_k is 62 or more */
     MIDVOKT_REFUSED_RECORD_WORDS = 2,        /* no multiple of 8, or more than 8,192 */
@@ -266,7 +364,18 @@ enum midvokt_number {
     MIDVOKT_REFUSED_PIVOT_X = 17,            /* local x is not 0, no x bit at the pivot */
     MIDVOKT_REFUSED_PIVOT_Z = 18,            /* local x is 0, z is not, no z bit at the pivot */
     MIDVOKT_REFUSED_EIGENVALUES = 19,        /* local x is 0, z is not, exponent 1 or 3 */
-    MIDVOKT_REFUSED_IDENTITY = 20            /* local x and z are both 0 */
+    MIDVOKT_REFUSED_IDENTITY = 20,           /* local x and z are both 0 */
+    /* files; the index is 0 */
+    MIDVOKT_REFUSED_FILE = 21,               /* load: under 128 bytes, no multiple of 8, or a
+                                                wrong length or version word */
+    MIDVOKT_REFUSED_SECTIONS = 22,           /* load: a section does not start where the one
+                                                before it stops, the first not at word 0, or the
+                                                last does not stop at the trailer */
+    MIDVOKT_REFUSED_LENGTHS = 23             /* store: the file's buffer is too short. load: steps
+                                                odd, sizes other than component_count, rotations
+                                                no multiple of 21, measurements none of 19,
+                                                scalars other than 8, or an output shorter than
+                                                its section */
 };
 
 /*
@@ -304,6 +413,61 @@ uint64_t midvokt_plan(uint64_t initial_k, uint64_t max_k, uint64_t nexpvals,
                       uint64_t *promotions, size_t promotions_len,
                       uint64_t *measurements, size_t measurements_len,
                       uint64_t *groups, size_t groups_len,
+                      uint64_t *result, size_t result_len);
+
+/*
+ * Plans the records into the seven outputs, as midvokt_plan does, and writes the plan's file.
+ * Returns MIDVOKT_PLANNED; or the number of the first refusal of planning, with its index; or
+ * else MIDVOKT_REFUSED_LENGTHS where the file's buffer is too short.
+ *
+ *   initial_k, max_k, nexpvals, records and the seven outputs
+ *               as midvokt_plan takes and fills them
+ *   file        where the file goes; MIDVOKT_FILE_BYTES(n) bytes are enough for n records,
+ *               and fewer may be. The bytes behind the file are zero
+ *   result      the refused record and the file's length in bytes; of any length
+ *
+ * The file is the first so many bytes of the buffer: a trailer stands at the end of a file, so
+ * that the bytes behind must not be kept with it. After any refusal all seven outputs and all
+ * bytes of the buffer are zero.
+ */
+uint64_t midvokt_store(uint64_t initial_k, uint64_t max_k, uint64_t nexpvals,
+                       const uint64_t *records, size_t records_len,
+                       uint64_t *steps, size_t steps_len,
+                       uint64_t *merges, size_t merges_len,
+                       uint64_t *sizes, size_t sizes_len,
+                       uint64_t *rotations, size_t rotations_len,
+                       uint64_t *promotions, size_t promotions_len,
+                       uint64_t *measurements, size_t measurements_len,
+                       uint64_t *groups, size_t groups_len,
+                       uint8_t *file, size_t file_len,
+                       uint64_t *result, size_t result_len);
+
+/*
+ * Reads a file back into six outputs. Returns MIDVOKT_PLANNED, or MIDVOKT_REFUSED_FILE, or else
+ * MIDVOKT_REFUSED_SECTIONS, or else MIDVOKT_REFUSED_LENGTHS.
+ *
+ *   file        all bytes of the file and no other
+ *   steps, merges, sizes, rotations, promotions, measurements
+ *               the outputs; each at least as long as its section. A caller that knows how many
+ *               records the plan had takes the macros above; another reads the counts in the
+ *               file's trailer, or takes for each as many words as the file has. Words behind
+ *               the used ones are zero; after a refusal all are
+ *   result      the scalar fields and the six counts; of any length
+ *
+ * What midvokt_store wrote is read back word for word: the scalar fields and every row. But
+ * nothing else is judged than the trailer and component_count. Any bytes that are right in
+ * these are read, and every other word comes back as it stands in the file: a flag of 7, a NaN,
+ * a step that names a row that is not there, a row that names a component that is not there. A
+ * file that was changed, or that comes from elsewhere, may hold such words; a program that
+ * applies its rows must check every number in them that it uses as a place or as a size.
+ */
+uint64_t midvokt_load(const uint8_t *file, size_t file_len,
+                      uint64_t *steps, size_t steps_len,
+                      uint64_t *merges, size_t merges_len,
+                      uint64_t *sizes, size_t sizes_len,
+                      uint64_t *rotations, size_t rotations_len,
+                      uint64_t *promotions, size_t promotions_len,
+                      uint64_t *measurements, size_t measurements_len,
                       uint64_t *result, size_t result_len);
 
 #ifdef __cplusplus

@@ -1,10 +1,11 @@
 /*
- * Measures the stack that a call needs: it runs on a stack of its own that was painted before,
+ * Measures the stack that each call needs: it runs on a stack of its own that was painted before,
  * and what is no longer painted was used. The programs reach every kind of record, the widest
- * joins, the most records, and refusals early and late. The first call comes before anything
- * else has called memcpy or memset, so that it pays for having them looked up; nothing in here
- * calls them, and `check` has them looked up as late as can be. With the word `bytes` behind it,
- * it prints how many bytes each call took; else whether all stay below what the header states.
+ * joins, the most records, and refusals early and late; each is stored, planned, and its file
+ * loaded. The first call comes before anything else has called memcpy or memset, so that it pays
+ * for having them looked up; nothing in here calls them, and `check` has them looked up as late as
+ * can be. With the word `bytes` behind it, it prints how many bytes each call took, and with `bytes
+ * plan` the first call is that of midvokt_plan; else whether all stay below what the header states.
  * `check` compares that with stack.expected. C99 and C++11, on systems with ucontext.
  */
 #define _XOPEN_SOURCE 700
@@ -33,21 +34,37 @@ static uint64_t promotions[MIDVOKT_PROMOTIONS_WORDS(RECORDS)];
 static uint64_t measurements[MIDVOKT_MEASUREMENTS_WORDS(RECORDS)];
 static uint64_t groups[MIDVOKT_GROUPS_WORDS(RECORDS)];
 static uint64_t result[MIDVOKT_RESULT_WORDS];
+static uint8_t file[MIDVOKT_FILE_BYTES(RECORDS)];
+static size_t file_len;
 static uint64_t initial_k, max_k, number;
 
 #define LENGTH(words) (sizeof(words) / sizeof(words)[0])
 #define LENT(words) words, LENGTH(words)
 
-/* The call, on the painted stack. */
-static void call(void)
+/* The calls, on the painted stack. */
+static void plan(void)
 {
     number = midvokt_plan(initial_k, max_k, 0, records, used * MIDVOKT_RECORD_WORDS, LENT(steps),
                           LENT(merges), LENT(sizes), LENT(rotations), LENT(promotions),
                           LENT(measurements), LENT(groups), LENT(result));
 }
 
+static void store(void)
+{
+    number = midvokt_store(initial_k, max_k, 0, records, used * MIDVOKT_RECORD_WORDS, LENT(steps),
+                           LENT(merges), LENT(sizes), LENT(rotations), LENT(promotions),
+                           LENT(measurements), LENT(groups), LENT(file), LENT(result));
+    file_len = (size_t)result[MIDVOKT_STORE_RESULT_BYTES];
+}
+
+static void load(void)
+{
+    number = midvokt_load(file, file_len, LENT(steps), LENT(merges), LENT(sizes), LENT(rotations),
+                          LENT(promotions), LENT(measurements), LENT(result));
+}
+
 /* The bytes of the painted stack that a call changes. */
-static size_t bytes_of_call(void)
+static size_t bytes_of(void (*call)(void))
 {
     size_t place;
     for (place = 0; place < sizeof painted; place++)
@@ -155,6 +172,25 @@ static void refused_early(void)
     max_k = 62;
 }
 
+/* A call by its name. */
+struct named {
+    const char *name;
+    void (*call)(void);
+};
+
+/* Makes a call of a program and gives its bytes; none where it returns another number. */
+static size_t measured(const struct named *named, size_t program, uint64_t wanted, int is_told)
+{
+    size_t bytes = bytes_of(named->call);
+    if (number != wanted) {
+        printf("program %d, %s: number %" PRIu64 "\n", (int)program, named->name, number);
+        return 0;
+    }
+    if (is_told)
+        printf("program %d, %s: %lu bytes\n", (int)program, named->name, (unsigned long)bytes);
+    return bytes;
+}
+
 int main(int count, char **words)
 {
     static void (*const programs[])(void) = {up_and_down,  joins_of_pairs, promotions_and_others,
@@ -165,19 +201,23 @@ int main(int count, char **words)
                                        MIDVOKT_REFUSED_COMPONENT_SIZE,
                                        MIDVOKT_REFUSED_IDENTITY,
                                        MIDVOKT_REFUSED_MAX_K};
+    static const struct named calls[] = {{"plan", plan}, {"store", store}, {"plan", plan},
+                                         {"load", load}};
     int is_told = count > 1 && words[1][0] == 'b';
-    size_t program, most = 0;
+    int is_plan_first = count > 2 && words[2][0] == 'p';
+    size_t program, call, most = 0;
     for (program = 0; program < LENGTH(programs); program++) {
-        size_t bytes;
         programs[program]();
-        bytes = bytes_of_call();
-        if (number != numbers[program]) {
-            printf("program %d: number %" PRIu64 "\n", (int)program, number);
-            return 1;
+        for (call = is_plan_first ? 0 : 1; call < LENGTH(calls); call++) {
+            uint64_t wanted = numbers[program];
+            size_t bytes;
+            if (wanted != MIDVOKT_PLANNED && calls[call].call == load)
+                wanted = MIDVOKT_REFUSED_FILE;
+            bytes = measured(calls + call, program, wanted, is_told);
+            if (bytes == 0)
+                return 1;
+            most = bytes > most ? bytes : most;
         }
-        if (is_told)
-            printf("program %d: %lu bytes\n", (int)program, (unsigned long)bytes);
-        most = bytes > most ? bytes : most;
     }
     if (is_told)
         return 0;

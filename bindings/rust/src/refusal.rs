@@ -1,9 +1,9 @@
-//! Why there is no plan: the reason by name, number and sentence, and the record.
+//! Why there is no plan, or no file: the reason by name, number and sentence, and the record.
 
 use core::error::Error;
 use core::fmt;
 
-/// Why planning stopped, by the names that the C header has for it.
+/// Why a call was refused, by the names that the C header has for it.
 #[non_exhaustive]
 #[derive(Clone, Copy, Debug, PartialEq, Eq, Hash)]
 pub enum Reason {
@@ -47,6 +47,15 @@ pub enum Reason {
     Eigenvalues,
     /// Number 20: the measured masks are both 0.
     Identity,
+    /// Number 21: the file that is loaded is under 128 bytes or no multiple of 8, or its length or
+    /// version word is a wrong one.
+    File,
+    /// Number 22: the sections of the file that is loaded do not follow each other from its first
+    /// word to its trailer.
+    Sections,
+    /// Number 23: the buffer for the file that is stored is too short; or a section of the file
+    /// that is loaded has a count that no plan has, or is longer than its output.
+    Lengths,
     /// A number that this version of the crate has no name for.
     Unnamed(u64),
 }
@@ -75,6 +84,9 @@ impl Reason {
             Self::PivotZ => 18,
             Self::Eigenvalues => 19,
             Self::Identity => 20,
+            Self::File => 21,
+            Self::Sections => 22,
+            Self::Lengths => 23,
             Self::Unnamed(number) => number,
         }
     }
@@ -102,6 +114,9 @@ impl Reason {
             18 => Self::PivotZ,
             19 => Self::Eigenvalues,
             20 => Self::Identity,
+            21 => Self::File,
+            22 => Self::Sections,
+            23 => Self::Lengths,
             _ => Self::Unnamed(number),
         }
     }
@@ -135,27 +150,38 @@ impl Reason {
                 "the measured x mask is 0, the z mask is not, and the phase exponent is 1 or 3"
             }
             Self::Identity => "the measured masks are both 0",
+            Self::File => {
+                "the file is under 128 bytes or no multiple of 8, or its length or version word is \
+                 wrong"
+            }
+            Self::Sections => {
+                "the file's sections do not follow each other from its first word to its trailer"
+            }
+            Self::Lengths => {
+                "a section has a count that no plan has, or the buffer for it or for the file is \
+                 too short"
+            }
             Self::Unnamed(_) => "the number has no name in this version",
         }
     }
 
-    /// Whether it is about one record, and not about the head or the buffers.
+    /// Whether it is about one record, and not about the head, the buffers or a file.
     pub const fn is_of_record(self) -> bool {
-        self.number() > 4
+        !matches!(self.number(), 0..=4 | 21..=23)
     }
 }
 
-/// Why there is no plan, and where planning stopped. All buffers are zero after it.
+/// Why there is no plan, or no file, and where planning stopped. All buffers are zero after it.
 #[derive(Clone, Copy, Debug, PartialEq, Eq, Hash)]
 pub struct Refusal {
-    /// Why planning stopped.
+    /// Why the call was refused.
     pub reason: Reason,
-    /// The record at which planning stopped, from 0; 0 for the head and the buffers.
+    /// The record at which planning stopped, from 0; 0 for the head, the buffers and files.
     pub index: usize,
 }
 
 impl Refusal {
-    /// The reason's number, 1 to 20 for a reason that has a name.
+    /// The reason's number, 1 to 23 for a reason that has a name.
     pub const fn number(&self) -> u64 {
         self.reason.number()
     }
@@ -165,7 +191,7 @@ impl Refusal {
         self.reason.sentence()
     }
 
-    /// Whether the refusal is about one record, and not about the head or the buffers.
+    /// Whether the refusal is about one record, and not about the head, the buffers or a file.
     pub const fn is_of_record(&self) -> bool {
         self.reason.is_of_record()
     }
@@ -199,30 +225,37 @@ mod tests {
 
     #[test]
     fn every_number_has_its_own_reason_and_sentence() {
-        let reasons: Vec<_> = (1..=20).map(Reason::from_number).collect();
-        assert!(reasons.iter().map(|reason| reason.number()).eq(1..=20));
+        let reasons: Vec<_> = (1..=23).map(Reason::from_number).collect();
+        assert!(reasons.iter().map(|reason| reason.number()).eq(1..=23));
         let unnamed = |reason: &Reason| matches!(reason, Reason::Unnamed(_));
         assert!(!reasons.iter().any(unnamed));
         let sentences: HashSet<_> = reasons.iter().map(|reason| reason.sentence()).collect();
-        assert_eq!(sentences.len(), 20);
-        assert!(!sentences.contains(Reason::Unnamed(21).sentence()));
+        assert_eq!(sentences.len(), 23);
+        assert!(!sentences.contains(Reason::Unnamed(24).sentence()));
     }
 
     #[test]
     fn an_unknown_number_is_kept() {
-        for number in [0, 21, u64::MAX] {
+        for number in [0, 24, u64::MAX] {
             assert_eq!(Reason::from_number(number), Reason::Unnamed(number));
             assert_eq!(Reason::Unnamed(number).number(), number);
         }
         assert_eq!(
-            said(21),
-            "refusal 21 at record 7: the number has no name in this version"
+            said(24),
+            "refusal 24 at record 7: the number has no name in this version"
         );
     }
 
     #[test]
-    fn the_record_is_named_from_five_on() {
+    fn the_record_is_named_from_5_to_20() {
         assert_eq!(said(4), "refusal 4: initial_k is more than 512");
         assert_eq!(said(5), "refusal 5 at record 7: the kind is none of 0 to 5");
+        assert_eq!(
+            said(20),
+            "refusal 20 at record 7: the measured masks are both 0"
+        );
+        let of_files = (21..=23).map(said).collect::<Vec<_>>();
+        assert!(of_files.iter().all(|said| !said.contains("record 7")));
+        assert!(of_files[0].starts_with("refusal 21: the file is under 128 bytes or no "));
     }
 }
