@@ -2,8 +2,9 @@
 
 use crate::refusal::{Reason, Refusal};
 use crate::rows::{
-    ActiveComponentMeasurementStep, ActiveComponentPromotionStep, ActiveComponentRotationStep,
-    ActiveComponentStepRef, MEASUREMENT_WORDS, ROTATION_WORDS, STEP_WORDS,
+    measurement_at, part, promotion_at, rotation_at, step_at, ActiveComponentMeasurementStep,
+    ActiveComponentPromotionStep, ActiveComponentRotationStep, ActiveComponentStepRef,
+    MEASUREMENT_WORDS, ROTATION_WORDS, STEP_WORDS,
 };
 use crate::words::Words;
 use crate::works::WholeWorks;
@@ -116,41 +117,31 @@ impl<'a> From<[&'a mut [u64]; 7]> for Buffers<'a> {
     }
 }
 
-/// Row number `number` of rows that have so many words.
-fn row(words: &[u64], size: usize, number: usize) -> Option<&[u64]> {
-    let start = number.checked_mul(size)?;
-    words.get(start..start.checked_add(size)?)
-}
-
 impl Buffers<'_> {
     /// The step of a record; none past the end, and none where the words are no step's. Zeros
     /// are the step of nothing.
     pub fn step(&self, record: usize) -> Option<ActiveComponentStepRef> {
-        row(self.steps, STEP_WORDS, record).and_then(ActiveComponentStepRef::from_words)
+        step_at(self.steps, record)
     }
 
     /// A rotation row; none past the end. Go by the steps: behind the last row all is zero.
     pub fn rotation(&self, number: usize) -> Option<ActiveComponentRotationStep> {
-        row(self.rotations, ROTATION_WORDS, number).map(ActiveComponentRotationStep::from_words)
+        rotation_at(self.rotations, number)
     }
 
     /// A promotion row; none past the end. Go by the steps: behind the last row all is zero.
     pub fn promotion(&self, number: usize) -> Option<ActiveComponentPromotionStep> {
-        row(self.promotions, 1, number).map(ActiveComponentPromotionStep::from_words)
+        promotion_at(self.promotions, number)
     }
 
     /// A measurement row; none past the end. Go by the steps: behind the last row all is zero.
     pub fn measurement(&self, number: usize) -> Option<ActiveComponentMeasurementStep> {
-        row(self.measurements, MEASUREMENT_WORDS, number)
-            .map(ActiveComponentMeasurementStep::from_words)
+        measurement_at(self.measurements, number)
     }
 
     /// The part of the merge list that a row names; empty if it runs past the end.
     pub fn sources(&self, merge_offset: usize, merge_count: usize) -> &[u64] {
-        merge_offset
-            .checked_add(merge_count)
-            .and_then(|end| self.merges.get(merge_offset..end))
-            .unwrap_or(&[])
+        part(self.merges, merge_offset, merge_count).unwrap_or(&[])
     }
 
     /// The members, which are coordinates, of each component that lives at the end. Each stands
@@ -225,7 +216,7 @@ impl Summary {
 }
 
 extern "C" {
-    /// The one function of the library, as include/midvokt.h declares it.
+    /// The function of the library that plans, as include/midvokt.h declares it.
     fn midvokt_plan(
         initial_k: u64,
         max_k: u64,

@@ -3,7 +3,7 @@
 //!
 //! All methods are total: no value of a field or an argument makes them panic.
 
-use crate::words::Words;
+use crate::words::{Room, Words};
 use crate::Complex;
 
 /// Whether a word has an odd number of ones.
@@ -91,6 +91,16 @@ impl ActivePauliAction {
             xz_overlap_odd: words.flag(),
         }
     }
+
+    /// Writes the same words.
+    pub(crate) fn write(&self, room: &mut Room<'_>) {
+        room.size(self.nqubits);
+        room.word(self.xmask);
+        room.word(self.zmask);
+        room.complex(self.even_phase);
+        room.complex(self.odd_phase);
+        room.flag(self.xz_overlap_odd);
+    }
 }
 
 /// What applying the rotation exp(-i angle P) to its component needs.
@@ -161,6 +171,20 @@ impl PrecomputedActivePauliRotationKernel {
             sin_kernel_angle: words.float(),
             minus_even_coefficient: words.complex(),
         }
+    }
+
+    /// Writes the same words.
+    pub(crate) fn write(&self, room: &mut Room<'_>) {
+        self.action.write(room);
+        room.flag(self.is_diagonal);
+        room.flag(self.uniform_imag_pairs);
+        room.flag(self.real_pair_flip);
+        room.word(u64::from(self.pair_bit));
+        room.size(self.pair_count);
+        room.float(self.kernel_angle);
+        room.float(self.cos_kernel_angle);
+        room.float(self.sin_kernel_angle);
+        room.complex(self.minus_even_coefficient);
     }
 }
 
@@ -245,6 +269,17 @@ impl PrecomputedActivePauliMeasurementKernel {
             out_dim: words.size(),
             nondiagonal_coefficient1_even: words.complex(),
         }
+    }
+
+    /// Writes the same words; a phase bit other than 0 as 1.
+    pub(crate) fn write(&self, room: &mut Room<'_>) {
+        self.action.write(room);
+        room.size(self.pivot);
+        room.flag(self.is_diagonal);
+        room.flag(self.diagonal_phase_bit != 0);
+        room.word(self.z_without_pivot);
+        room.size(self.out_dim);
+        room.complex(self.nondiagonal_coefficient1_even);
     }
 }
 

@@ -10,6 +10,9 @@
 //! * [`plan_into`] takes record words and [`Buffers`] that the caller lends, and allocates
 //!   nothing. The rows are then read from the buffers, one at a time.
 //!
+//! A plan that is used often can be kept as a file: `store` and [`store_into`] plan and give the
+//! file's bytes, `load` and [`load_into`] read them back.
+//!
 //! ```
 //! # #[cfg(feature = "std")] {
 //! use midvokt::{plan, Head, Reason, Record};
@@ -112,6 +115,34 @@
 //! # }
 //! ```
 //!
+//! # Stored plans
+//!
+//! A stored plan is a run of bytes, which the caller keeps: the scalar fields, the steps, the rows
+//! and their sources. Its groups and its whole works are not stored. One plan has one file, and what
+//! was stored is loaded again word for word; `include/midvokt.h` says which word of a file is which.
+//!
+//! Loading looks at a file's length, at its trailer and at `component_count`, and refuses it
+//! ([`Reason::File`], [`Reason::Sections`], [`Reason::Lengths`]) where these are wrong. All else comes
+//! back as it stands in the file. So `load` gives a `StoredPlan` where the words make one, and the
+//! words themselves, with the first that does not fit, where they do not. Rows of a plan that comes
+//! from elsewhere may still contradict each other: a program that applies them has to check what it
+//! uses as a place or as a size.
+//!
+//! ```
+//! # #[cfg(feature = "std")] {
+//! use midvokt::{load, plan, store, Head, Reason, Record, Stored, StoredPlan};
+//!
+//! let head = Head { initial_k: 3, max_k: 8, nexpvals: 0 };
+//! let records = [Record::rotation(3, 0b101, 0, 0, 0.25), Record::measurement(3, 0, 0b110, 2, 2)];
+//! let file = store(&head, &records).unwrap();
+//! let kept = StoredPlan::from(plan(&head, &records).unwrap());
+//! assert_eq!(load(&file), Ok(Stored::Plan(kept)));
+//!
+//! let refused = load(&file[8..]).unwrap_err();
+//! assert_eq!(refused.reason, Reason::File);
+//! # }
+//! ```
+//!
 //! # What is the Rust simulator's
 //!
 //! The plan, its rows and their kernels have the names, fields, methods and defaults that the
@@ -120,10 +151,12 @@
 //!
 //! # Features
 //!
-//! The crate is `no_std`. Without features it has [`plan_into`], [`plan_words`], the rows and
-//! [`Record::encode`], allocates nothing and depends on nothing.
+//! The crate is `no_std`. Without features it has [`plan_into`], [`plan_words`], [`store_into`],
+//! [`store_words`], [`load_into`], [`load_words`], the rows and [`Record::encode`], allocates nothing
+//! and depends on nothing.
 //!
-//! * `alloc`: owned plans, which are `plan`, `plan_encoded` and `ActiveComponentPlan`, and
+//! * `alloc`: owned plans, which are `plan`, `plan_encoded` and `ActiveComponentPlan`, stored ones,
+//!   which are `store`, `store_encoded`, `load`, `Stored`, `StoredPlan` and `StoredWords`, and
 //!   `encode`, which gives the words of all records.
 //! * `std`, on unless turned off: `alloc`, and `Record::rotation`, which computes sine and
 //!   cosine. Without it the caller gives them in [`Rotation`].
@@ -176,6 +209,9 @@ mod plan;
 mod record;
 mod refusal;
 mod rows;
+mod stored;
+#[cfg(feature = "alloc")]
+mod stored_plan;
 mod words;
 mod works;
 
@@ -197,6 +233,14 @@ pub use refusal::{Reason, Refusal};
 pub use rows::{
     ActiveComponentMeasurementStep, ActiveComponentPromotionStep, ActiveComponentRotationStep,
     ActiveComponentStepKind, ActiveComponentStepRef, MEASUREMENT_WORDS, ROTATION_WORDS, STEP_WORDS,
+};
+pub use stored::{
+    file_bytes, load_into, load_words, store_into, store_words, Counts, Loaded, Scalars, Sections,
+    FILE_VERSION, LOAD_RESULT_WORDS, SCALAR_WORDS, STORE_RESULT_WORDS, TRAILER_WORDS,
+};
+#[cfg(feature = "alloc")]
+pub use stored_plan::{
+    load, store, store_encoded, Fault, Misfit, Place, Stored, StoredPlan, StoredWords,
 };
 pub use works::WholeWorks;
 

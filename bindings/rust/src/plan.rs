@@ -8,8 +8,8 @@ use crate::call::{plan_into, Buffers, Head, Lengths, Summary};
 use crate::record::{encode, Record, MOST_RECORDS, RECORD_WORDS};
 use crate::refusal::Refusal;
 use crate::rows::{
-    ActiveComponentMeasurementStep, ActiveComponentPromotionStep, ActiveComponentRotationStep,
-    ActiveComponentStepKind, ActiveComponentStepRef,
+    part, ActiveComponentMeasurementStep, ActiveComponentPromotionStep,
+    ActiveComponentRotationStep, ActiveComponentStepKind, ActiveComponentStepRef,
 };
 use crate::works::WholeWorks;
 
@@ -54,21 +54,18 @@ pub struct ActiveComponentPlan {
 impl ActiveComponentPlan {
     /// The part of the merge list that a row names; empty if it runs past the end.
     pub fn sources(&self, merge_offset: usize, merge_count: usize) -> &[usize] {
-        merge_offset
-            .checked_add(merge_count)
-            .and_then(|end| self.merge_components.get(merge_offset..end))
-            .unwrap_or(&[])
+        part(&self.merge_components, merge_offset, merge_count).unwrap_or(&[])
     }
 }
 
 /// Seven buffers of just the lengths that so many records need.
-struct Owned {
+pub(crate) struct Owned {
     words: [Vec<u64>; 7],
 }
 
 impl Owned {
     /// Zeroed buffers for so many records.
-    fn for_records(records: usize) -> Self {
+    pub(crate) fn for_records(records: usize) -> Self {
         let lengths = Lengths::for_records(records).in_order();
         Self {
             words: lengths.map(|length| vec![0; length]),
@@ -76,7 +73,7 @@ impl Owned {
     }
 
     /// The same, lent.
-    fn lend(&mut self) -> Buffers<'_> {
+    pub(crate) fn lend(&mut self) -> Buffers<'_> {
         Buffers::from(self.words.each_mut().map(Vec::as_mut_slice))
     }
 }
@@ -87,7 +84,7 @@ fn count(steps: &[ActiveComponentStepRef], kind: ActiveComponentStepKind) -> usi
 }
 
 /// Words as sizes or numbers.
-fn sizes(words: &[u64]) -> Vec<usize> {
+pub(crate) fn sizes(words: &[u64]) -> Vec<usize> {
     words.iter().map(|&word| word as usize).collect()
 }
 

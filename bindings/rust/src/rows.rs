@@ -1,9 +1,10 @@
-//! The steps and rows of a plan as typed values, with the field names of the Rust simulator.
+//! The steps and rows of a plan as typed values, with the field names of the Rust simulator, and
+//! back as words.
 
 use crate::kernels::{
     PrecomputedActivePauliMeasurementKernel, PrecomputedActivePauliRotationKernel,
 };
-use crate::words::Words;
+use crate::words::{Room, Words};
 
 /// Words of a step.
 pub const STEP_WORDS: usize = 2;
@@ -40,6 +41,17 @@ impl ActiveComponentStepKind {
             _ => None,
         }
     }
+
+    /// The word that stands for it.
+    const fn to_word(self) -> u64 {
+        match self {
+            Self::None => 0,
+            Self::IgnoredGlobalPhase => 1,
+            Self::Rotation => 2,
+            Self::Promotion => 3,
+            Self::Measurement => 4,
+        }
+    }
 }
 
 /// A record's step: its kind, and its row among the rows of that kind.
@@ -58,6 +70,11 @@ impl ActiveComponentStepRef {
             kind: ActiveComponentStepKind::from_word(row[0])?,
             payload: row[1] as usize,
         })
+    }
+
+    /// The step's two words.
+    pub fn to_words(&self) -> [u64; STEP_WORDS] {
+        [self.kind.to_word(), self.payload as u64]
     }
 }
 
@@ -85,6 +102,17 @@ impl ActiveComponentRotationStep {
             kernel: PrecomputedActivePauliRotationKernel::read(&mut words),
         }
     }
+
+    /// The row's 21 words.
+    pub fn to_words(&self) -> [u64; ROTATION_WORDS] {
+        let mut row = [0; ROTATION_WORDS];
+        let mut room = Room::new(&mut row);
+        room.size(self.component);
+        room.size(self.merge_offset);
+        room.size(self.merge_count);
+        self.kernel.write(&mut room);
+        row
+    }
 }
 
 /// A new coordinate in a component of its own.
@@ -100,6 +128,11 @@ impl ActiveComponentPromotionStep {
         Self {
             component: row[0] as usize,
         }
+    }
+
+    /// The row's one word.
+    pub fn to_words(&self) -> [u64; 1] {
+        [self.component as u64]
     }
 }
 
@@ -130,4 +163,50 @@ impl ActiveComponentMeasurementStep {
             deactivate_after: words.flag(),
         }
     }
+
+    /// The row's 19 words. A phase bit other than 0 is written as 1, as planning has it.
+    pub fn to_words(&self) -> [u64; MEASUREMENT_WORDS] {
+        let mut row = [0; MEASUREMENT_WORDS];
+        let mut room = Room::new(&mut row);
+        room.size(self.component);
+        room.size(self.merge_offset);
+        room.size(self.merge_count);
+        self.kernel.write(&mut room);
+        room.flag(self.deactivate_after);
+        row
+    }
+}
+
+/// Row number `number` of rows that have so many words.
+fn row(words: &[u64], size: usize, number: usize) -> Option<&[u64]> {
+    let start = number.checked_mul(size)?;
+    words.get(start..start.checked_add(size)?)
+}
+
+/// The step of a record in a list of steps.
+pub(crate) fn step_at(words: &[u64], record: usize) -> Option<ActiveComponentStepRef> {
+    row(words, STEP_WORDS, record).and_then(ActiveComponentStepRef::from_words)
+}
+
+/// A row of a list of rotation rows.
+pub(crate) fn rotation_at(words: &[u64], number: usize) -> Option<ActiveComponentRotationStep> {
+    row(words, ROTATION_WORDS, number).map(ActiveComponentRotationStep::from_words)
+}
+
+/// A row of a list of promotion rows.
+pub(crate) fn promotion_at(words: &[u64], number: usize) -> Option<ActiveComponentPromotionStep> {
+    row(words, 1, number).map(ActiveComponentPromotionStep::from_words)
+}
+
+/// A row of a list of measurement rows.
+pub(crate) fn measurement_at(
+    words: &[u64],
+    number: usize,
+) -> Option<ActiveComponentMeasurementStep> {
+    row(words, MEASUREMENT_WORDS, number).map(ActiveComponentMeasurementStep::from_words)
+}
+
+/// The part of a merge list that a row names; none if it runs past the end.
+pub(crate) fn part<T>(merges: &[T], offset: usize, count: usize) -> Option<&[T]> {
+    merges.get(offset..offset.checked_add(count)?)
 }

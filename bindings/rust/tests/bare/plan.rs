@@ -1,6 +1,6 @@
-//! A program with neither std nor an allocator that plans two records in buffers of its own and
-//! ends with status 0 where the plan is right. `check` builds it with rustc alone: it would not
-//! link if the crate brought in either.
+//! A program with neither std nor an allocator that plans two records in buffers of its own, stores
+//! the plan and loads it again, and ends with status 0 where all is right. `check` builds it with
+//! rustc alone: it would not link if the crate brought in either.
 
 #![no_std]
 #![no_main]
@@ -8,11 +8,17 @@
 use core::panic::PanicInfo;
 
 use midvokt::{
-    plan_into, ActiveComponentStepKind, Buffers, Head, Lengths, Record, Rotation, RECORD_WORDS,
+    file_bytes, load_into, plan_into, store_into, ActiveComponentStepKind, Buffers, Head, Lengths,
+    Record, Rotation, Sections, RECORD_WORDS,
 };
 
 const RECORDS: usize = 2;
 const LENGTHS: Lengths = Lengths::for_records(RECORDS);
+const HEAD: Head = Head {
+    initial_k: 3,
+    max_k: 8,
+    nexpvals: 0,
+};
 
 #[link(name = "c")]
 extern "C" {
@@ -51,11 +57,6 @@ fn words() -> [u64; RECORDS * RECORD_WORDS] {
 
 /// Whether the plan of the two records is the expected one.
 fn is_planned() -> bool {
-    let head = Head {
-        initial_k: 3,
-        max_k: 8,
-        nexpvals: 0,
-    };
     let mut buffers = Buffers {
         steps: &mut [0; LENGTHS.steps],
         merges: &mut [0; LENGTHS.merges],
@@ -65,7 +66,7 @@ fn is_planned() -> bool {
         measurements: &mut [0; LENGTHS.measurements],
         groups: &mut [0; LENGTHS.groups],
     };
-    let planned = plan_into(&head, &words(), &mut buffers);
+    let planned = plan_into(&HEAD, &words(), &mut buffers);
     let kinds = [0, 1].map(|record| buffers.step(record).map(|step| step.kind));
     planned.is_ok_and(|summary| summary.component_peak_live_dimension == 8)
         && kinds.contains(&Some(ActiveComponentStepKind::Measurement))
@@ -73,6 +74,28 @@ fn is_planned() -> bool {
             .measurement(0)
             .is_some_and(|row| row.kernel.pivot == 1)
         && buffers.groups().eq([[0, 1]])
+        && is_stored(&mut buffers)
+}
+
+/// Whether the plan is stored and its last row loaded again.
+fn is_stored(buffers: &mut Buffers<'_>) -> bool {
+    let mut file = [0; file_bytes(RECORDS)];
+    let Ok(length) = store_into(&HEAD, &words(), buffers, &mut file) else {
+        return false;
+    };
+    let mut sections = Sections {
+        steps: &mut [0; LENGTHS.steps],
+        merges: &mut [0; LENGTHS.merges],
+        sizes: &mut [0; LENGTHS.sizes],
+        rotations: &mut [0; LENGTHS.rotations],
+        promotions: &mut [0; LENGTHS.promotions],
+        measurements: &mut [0; LENGTHS.measurements],
+    };
+    let loaded = load_into(&file[..length], &mut sections);
+    loaded.is_ok_and(|loaded| loaded.scalars.component_peak_live_dimension == 8)
+        && sections.measurement(0).is_some()
+        && sections.measurement(0) == buffers.measurement(0)
+        && load_into(&file, &mut sections).is_err()
 }
 
 /// Where the C library begins the program.
