@@ -159,7 +159,7 @@ pub struct Misfit {
 #[non_exhaustive]
 #[derive(Clone, Copy, Debug, PartialEq, Eq, Hash)]
 pub enum Place {
-    /// In the scalar fields.
+    /// In the scalar fields: `selected`, or one of the works.
     Scalars,
     /// In the step of this record.
     Step(usize),
@@ -194,7 +194,10 @@ impl fmt::Display for Misfit {
     /// The place and what is wrong there.
     fn fmt(&self, formatter: &mut fmt::Formatter<'_>) -> fmt::Result {
         match self.place {
-            Place::Scalars => write!(formatter, "the scalar fields: ")?,
+            Place::Scalars if self.fault == Fault::Word => {
+                return formatter.write_str("selected is neither 0 nor 1");
+            }
+            Place::Scalars => write!(formatter, "the works: ")?,
             Place::Step(record) => write!(formatter, "the step of record {record}: ")?,
             Place::Merge(place) => write!(formatter, "word {place} of the merge list: ")?,
             Place::Rotation(row) => write!(formatter, "rotation row {row}: ")?,

@@ -579,7 +579,8 @@ fn a_misfit_is_said_in_words() {
         said(3, 0, 9),
         "rotation row 0: it names a component that is not there"
     );
-    assert_eq!(said(6, 3, NAN), "the scalar fields: a float is no number");
+    assert_eq!(said(6, 0, 7), "selected is neither 0 nor 1");
+    assert_eq!(said(6, 3, NAN), "the works: a float is no number");
     assert_eq!(
         said(0, 4, 99),
         "the step of record 2: a word is none that its field can have"
