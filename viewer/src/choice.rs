@@ -1,7 +1,7 @@
 //! Why a plan is selected or not: the four tests of the choice, each with its two sides. The
 //! plan's own field decides; the tests are computed again here only to be shown.
 
-use midvokt::{ActiveComponentPlan, ActiveComponentStepKind as Kind, Head};
+use midvokt::{ActiveComponentStepKind as Kind, Head, StoredPlan};
 
 use crate::figures;
 
@@ -62,6 +62,8 @@ impl Test {
 pub enum Choice {
     /// The head has the records left unread, for this reason.
     Unread(String),
+    /// A stored plan with neither steps nor components.
+    Nothing,
     /// The four tests, and whether they say what the plan says.
     Tested {
         /// The tests in the order of the definition.
@@ -73,14 +75,14 @@ pub enum Choice {
 
 /// How many instructions act on the register: rotations, ignored ones too, promotions, and
 /// measurements that are no expectations.
-pub fn instructions(plan: &ActiveComponentPlan) -> usize {
+pub fn instructions(plan: &StoredPlan) -> usize {
     let acting = |kind| kind != Kind::None;
     let steps = plan.instruction_steps.iter();
     steps.filter(|step| acting(step.kind)).count()
 }
 
 /// The four tests of a plan whose records are read.
-fn tests(head: &Head, plan: &ActiveComponentPlan) -> Vec<Test> {
+fn tests(plan: &StoredPlan) -> Vec<Test> {
     let dense = plan.estimated_dense_work;
     let component = plan.estimated_component_work;
     let allocated = plan.component_allocated_dimension as f64;
@@ -103,7 +105,7 @@ fn tests(head: &Head, plan: &ActiveComponentPlan) -> Vec<Test> {
             name: "allocated",
             left: allocated,
             relation: "<=",
-            origin: format!("1.25 x 2^{}", head.max_k),
+            origin: format!("1.25 x {}", power(plan.dense_peak_dimension as u64)),
             right: room,
             passes: allocated <= room,
             is_rounded: allocated as u128 != plan.component_allocated_dimension as u128,
@@ -111,25 +113,51 @@ fn tests(head: &Head, plan: &ActiveComponentPlan) -> Vec<Test> {
     ]
 }
 
+/// A number as the power of two that it is, if it is one.
+fn power(number: u64) -> String {
+    match number.is_power_of_two() {
+        true => format!("2^{}", number.trailing_zeros()),
+        false => figures::whole(number),
+    }
+}
+
 impl Choice {
+    /// The tests, and whether they say what the plan says.
+    fn tested(plan: &StoredPlan) -> Self {
+        let tests = tests(plan);
+        let agrees = tests.iter().all(|test| test.passes) == plan.selected;
+        Self::Tested { tests, agrees }
+    }
+
+    /// The tests of a stored plan, which tells of its head no more than the dense peak.
+    pub fn of_stored(plan: &StoredPlan) -> Self {
+        match plan.instruction_steps.is_empty() && plan.component_count == 0 && !plan.selected {
+            true => Self::Nothing,
+            false => Self::tested(plan),
+        }
+    }
+
     /// The tests of a plan, or why there are none.
-    pub fn of(head: &Head, plan: &ActiveComponentPlan) -> Self {
+    pub fn of(head: &Head, plan: &StoredPlan) -> Self {
         if head.max_k < 8 {
             return Self::Unread(format!("max {} is below 8", head.max_k));
         }
         if head.nexpvals != 0 {
             return Self::Unread(format!("expvals {} is not 0", head.nexpvals));
         }
-        let tests = tests(head, plan);
-        let agrees = tests.iter().all(|test| test.passes) == plan.selected;
-        Self::Tested { tests, agrees }
+        Self::tested(plan)
     }
 }
 
 #[cfg(test)]
 mod tests_of_choice {
     use super::*;
-    use midvokt::{plan, Record};
+    use midvokt::{Record, Refusal};
+
+    /// What a file keeps of a plan.
+    fn plan(head: &Head, records: &[Record]) -> Result<StoredPlan, Refusal> {
+        midvokt::plan(head, records).map(StoredPlan::from)
+    }
 
     /// The head with so many coordinates and this limit.
     fn head(initial_k: u64, max_k: u64, nexpvals: u64) -> Head {
@@ -181,6 +209,24 @@ mod tests_of_choice {
             Choice::of(&expected, &plan),
             Choice::Unread("expvals 2 is not 0".to_owned())
         );
+    }
+
+    #[test]
+    fn a_stored_plan_has_the_tests_of_its_circuit() {
+        let head = head(3, 8, 0);
+        let planned = plan(&head, &[Record::rotation(3, 5, 0, 0, 0.0)]).unwrap();
+        assert_eq!(Choice::of_stored(&planned), Choice::of(&head, &planned));
+        let unread = plan(&Head { max_k: 7, ..head }, &[]).unwrap();
+        assert_eq!(Choice::of_stored(&unread), Choice::Nothing);
+        let selected = StoredPlan {
+            selected: true,
+            ..unread
+        };
+        assert!(matches!(
+            Choice::of_stored(&selected),
+            Choice::Tested { agrees: false, .. }
+        ));
+        assert_eq!([power(256), power(100)], ["2^8", "100"]);
     }
 
     #[test]

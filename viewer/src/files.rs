@@ -1,5 +1,5 @@
-//! Reads a circuit file or standard input, tells whether two names are one file, and writes
-//! files so that each is whole or not there, and either all of them are written or none.
+//! Reads a circuit file, a stored plan or standard input, tells whether two names are one file, and
+//! writes files so that each is whole or not there, and either all of them are written or none.
 
 use std::ffi::OsString;
 use std::fs::{self, File, Metadata, OpenOptions};
@@ -22,6 +22,18 @@ pub fn read(path: &Path) -> io::Result<Vec<u8>> {
     let mut bytes = Vec::new();
     io::stdin().lock().read_to_end(&mut bytes)?;
     Ok(bytes)
+}
+
+/// The bytes of a file, or of standard input; none where there are more than so many, of which no
+/// more are read.
+pub fn read_at_most(path: &Path, most: usize) -> io::Result<Option<Vec<u8>>> {
+    let mut bytes = Vec::new();
+    let more = most as u64 + 1;
+    match path.as_os_str() == STANDARD_INPUT {
+        true => io::stdin().lock().take(more).read_to_end(&mut bytes)?,
+        false => File::open(path)?.take(more).read_to_end(&mut bytes)?,
+    };
+    Ok((bytes.len() <= most).then_some(bytes))
 }
 
 /// What a name stands for, however it is spelled.
@@ -50,8 +62,8 @@ impl Identity {
         Some(Self::Absent(folder.dev(), folder.ino(), name))
     }
 
-    /// The circuit's file, also where it comes by standard input.
-    pub fn of_circuit(path: &Path) -> Option<Self> {
+    /// The file that is read, also where it comes by standard input.
+    pub fn of_read(path: &Path) -> Option<Self> {
         match path.as_os_str() == STANDARD_INPUT {
             true => of_open(&io::stdin()).map(|found| Self::there(&found)),
             false => Self::of(path),
@@ -257,6 +269,20 @@ mod tests {
         write(&path, b"second").unwrap();
         assert_eq!(fs::read(&path).unwrap(), b"second");
         assert_eq!(fs::read_dir(&folder).unwrap().count(), 1);
+        fs::remove_dir_all(folder).unwrap();
+    }
+
+    #[test]
+    fn no_more_is_read_than_may_be() {
+        let folder = folder("most");
+        let path = folder.join("in");
+        fs::write(&path, "1234").unwrap();
+        let read = |most| read_at_most(&path, most).unwrap();
+        assert_eq!(read(4), Some(b"1234".to_vec()));
+        assert_eq!(read(3), None);
+        let endless = Path::new("/dev/zero");
+        assert_eq!(read_at_most(endless, 1000).unwrap(), None);
+        assert!(read_at_most(&folder, 1000).is_err());
         fs::remove_dir_all(folder).unwrap();
     }
 

@@ -3,14 +3,14 @@
 //! pass 2^53, which a reader may keep as a float, is a string of digits, whatever it holds.
 
 use midvokt::{
-    ActiveComponentStepKind as Kind, ActivePauliAction, Complex, Head, Refusal, WholeWorks,
+    ActiveComponentStepKind as Kind, ActivePauliAction, Complex, Head, Refusal, Scalars, WholeWorks,
 };
 
 use crate::choice::Choice;
 use crate::circuit::Circuit;
 use crate::lives::{Deed, End, Event};
 use crate::notes;
-use crate::planning::View;
+use crate::planning::{Planned, View};
 use crate::text::{self, refused_record};
 
 /// The number of this form of the output; another form gets another number.
@@ -228,14 +228,14 @@ fn event(view: &View<'_>, event: &Event) -> Fields {
 /// The records with their steps; none where they are unread.
 fn records(view: &View<'_>) -> String {
     let steps = view.plan.instruction_steps.iter().enumerate();
+    let circuit = view.planned.as_ref().map(|planned| planned.circuit);
     let record = |(number, step): (usize, &midvokt::ActiveComponentStepRef)| {
-        let placed = &view.circuit.records[number];
-        let mut fields = vec![
-            ("record", number.to_string()),
-            ("line", placed.line.to_string()),
-            ("text", string(&placed.text)),
-            ("step", string(step_name(step.kind))),
-        ];
+        let mut fields = vec![("record", number.to_string())];
+        if let Some(placed) = circuit.map(|circuit| &circuit.records[number]) {
+            fields.push(("line", placed.line.to_string()));
+            fields.push(("text", string(&placed.text)));
+        }
+        fields.push(("step", string(step_name(step.kind))));
         if let Some(found) = view.replay.event(number) {
             fields.extend(event(view, found));
         }
@@ -277,15 +277,50 @@ fn opening(name: &str, circuit: &Circuit, refusal: String) -> Fields {
     ]
 }
 
+/// The fields that a stored plan and its refusal begin with; the last is null but for words that
+/// make no plan.
+fn stored_opening(name: &str, refusal: String, senseless: String) -> Fields {
+    vec![
+        ("format", FORMAT.to_string()),
+        ("stored", string(name)),
+        ("refusal", refusal),
+        ("senseless", senseless),
+    ]
+}
+
+/// The members of each component that lives at the end.
+fn groups(planned: &Planned<'_>) -> String {
+    let groups: Vec<_> = planned.groups.iter().map(|members| list(members)).collect();
+    list(&groups)
+}
+
 /// A plan.
 pub fn plan(view: &View<'_>) -> String {
-    let plan = &view.plan;
-    let groups: Vec<_> = plan.groups.iter().map(|members| list(members)).collect();
-    let is_read = matches!(view.choice, Choice::Tested { .. });
-    let mut fields = opening(view.name, view.circuit, "null".to_owned());
+    let null = || "null".to_owned();
+    let mut fields = match &view.planned {
+        Some(planned) => opening(view.name, planned.circuit, null()),
+        None => stored_opening(view.name, null(), null()),
+    };
+    fields.extend(scalars(view));
     fields.extend([
+        ("component_max_k", list(&view.plan.component_max_k)),
+        ("records", records(view)),
+        ("components", components(view)),
+    ]);
+    fields.extend(
+        view.planned
+            .iter()
+            .map(|planned| ("groups", groups(planned))),
+    );
+    tall_object(&fields) + "\n"
+}
+
+/// The scalar fields of a plan, the choice and the whole works; a stored plan has none of these.
+fn scalars(view: &View<'_>) -> Fields {
+    let plan = &view.plan;
+    let mut fields = vec![
         ("selected", plan.selected.to_string()),
-        ("records_read", is_read.to_string()),
+        ("records_read", view.is_read().to_string()),
         ("tests", tests(&view.choice)),
         ("initial_components", wide(plan.initial_components)),
         ("component_count", plan.component_count.to_string()),
@@ -294,7 +329,10 @@ pub fn plan(view: &View<'_>) -> String {
             "estimated_component_work",
             float(plan.estimated_component_work),
         ),
-        ("whole_works", whole_works(plan.whole_works)),
+    ];
+    let works = view.whole_works().map(whole_works);
+    fields.extend(works.map(|works| ("whole_works", works)));
+    fields.extend([
         ("dense_peak_dimension", wide(plan.dense_peak_dimension)),
         (
             "component_peak_live_dimension",
@@ -304,11 +342,26 @@ pub fn plan(view: &View<'_>) -> String {
             "component_allocated_dimension",
             wide(plan.component_allocated_dimension),
         ),
-        ("component_max_k", list(&plan.component_max_k)),
-        ("records", records(view)),
-        ("components", components(view)),
-        ("groups", list(&groups)),
     ]);
+    fields
+}
+
+/// A file that is refused as a stored plan.
+pub fn stored_refusal(name: &str, refusal: &Refusal, reason: &str) -> String {
+    let about = object(&vec![
+        ("number", refusal.number().to_string()),
+        ("reason", string(reason)),
+        ("record", optional::<u64>(None)),
+        ("line", optional::<u64>(None)),
+    ]);
+    tall_object(&stored_opening(name, about, "null".to_owned())) + "\n"
+}
+
+/// A stored plan that makes no sense, with its scalar fields as words if it was read.
+pub fn senseless(name: &str, what: &str, scalars: Option<&Scalars>) -> String {
+    let mut fields = stored_opening(name, "null".to_owned(), string(what));
+    let words = scalars.map(|scalars| list(&scalars.in_order().map(wide)));
+    fields.extend(words.map(|words| ("scalars", words)));
     tall_object(&fields) + "\n"
 }
 

@@ -1,7 +1,10 @@
 //! Follows the components of a plan from record to record, by the plan's steps, rows and merge
-//! list alone: who joins whom, whose coordinate leaves, and where each component ends.
+//! list alone: who joins whom, whose coordinate leaves, and where each component ends. A stored plan
+//! may come from elsewhere, so that nothing is followed before it is held to what went before.
 
-use midvokt::{ActiveComponentPlan, ActiveComponentStepKind as Kind, ActiveComponentStepRef};
+use midvokt::{ActiveComponentStepKind as Kind, ActivePauliAction, StoredPlan};
+
+use crate::sense::{self, Rows};
 
 /// What a record does to its component.
 #[derive(Clone, Copy, Debug, PartialEq, Eq)]
@@ -34,16 +37,6 @@ pub struct Event {
     pub joined: Vec<usize>,
     /// Its members in order, after the joins and before a coordinate leaves.
     pub members: Vec<usize>,
-}
-
-impl Event {
-    /// How many members the component has after the record.
-    pub fn size_after(&self) -> usize {
-        match self.deed {
-            Deed::Measurement { .. } => self.members.len() - 1,
-            _ => self.members.len(),
-        }
-    }
 }
 
 /// How a component ends.
@@ -114,16 +107,23 @@ pub struct Replay {
 }
 
 impl Replay {
-    /// Follows a plan. One whose records are unread has no component.
-    pub fn of(plan: &ActiveComponentPlan) -> Self {
+    /// Follows a plan, or says what is senseless about it. One whose records are unread has no
+    /// component.
+    pub fn of(plan: &StoredPlan) -> Result<Self, String> {
         let mut replay = Self::default();
-        for component in 0..plan.initial_components.min(plan.component_count) {
+        let mut rows = Rows::default();
+        for component in 0..sense::first_components(plan)? {
             replay.open(None, component);
         }
         for (record, step) in plan.instruction_steps.iter().enumerate() {
-            replay.step(plan, record, step);
+            rows.take(plan, step)
+                .and_then(|()| replay.step(plan, record, step.kind, step.payload))
+                .map_err(|what| format!("record {record}: {what}"))?;
         }
-        replay
+        rows.are_all(plan)?;
+        let longest: Vec<_> = replay.lives.iter().map(|life| life.longest).collect();
+        sense::sizes(plan, &longest)?;
+        Ok(replay)
     }
 
     /// The event of a record, if it concerns a component.
@@ -145,35 +145,51 @@ impl Replay {
         });
     }
 
-    /// One record's step.
-    fn step(&mut self, plan: &ActiveComponentPlan, record: usize, step: &ActiveComponentStepRef) {
-        let row = step.payload;
-        match step.kind {
+    /// One record's step, with its row.
+    fn step(
+        &mut self,
+        plan: &StoredPlan,
+        record: usize,
+        kind: Kind,
+        row: usize,
+    ) -> Result<(), String> {
+        match kind {
             Kind::None | Kind::IgnoredGlobalPhase => {}
             Kind::Rotation => {
                 let step = &plan.rotations[row];
                 let sources = plan.sources(step.merge_offset, step.merge_count);
-                self.join(record, row, step.component, sources);
+                self.join(record, row, sources, &step.kernel.action)?;
             }
             Kind::Promotion => {
                 let component = plan.promotions[row].component;
+                sense::promotion(component, self.lives.len())?;
                 self.open(Some(record), component);
-                self.join(record, row, component, &[component]);
+                self.note(record, row, vec![component]);
                 self.change_deed(Deed::Promotion);
             }
             Kind::Measurement => {
                 let step = &plan.measurements[row];
                 let sources = plan.sources(step.merge_offset, step.merge_count);
-                self.join(record, row, step.component, sources);
+                self.join(record, row, sources, &step.kernel.action)?;
+                let members = self.members[step.component].len();
+                sense::removal(step, members)?;
                 self.remove(record, step.component, step.kernel.pivot);
             }
         }
+        Ok(())
     }
 
     /// Joins the sources into the first of them, and notes a rotation of it.
-    fn join(&mut self, record: usize, row: usize, component: usize, sources: &[usize]) {
-        let joined: Vec<_> = sources.iter().skip(1).copied().collect();
-        for &source in &joined {
+    fn join(
+        &mut self,
+        record: usize,
+        row: usize,
+        sources: &[usize],
+        action: &ActivePauliAction,
+    ) -> Result<(), String> {
+        sense::sources(sources, &self.members)?;
+        let component = sources[0];
+        for &source in &sources[1..] {
             let members = std::mem::take(&mut self.members[source]);
             self.members[component].extend(members);
             self.lives[source].end = End::Joined {
@@ -181,6 +197,14 @@ impl Replay {
                 into: component,
             };
         }
+        self.note(record, row, sources.to_vec());
+        sense::action(action, self.members[component].len())
+    }
+
+    /// Notes a rotation of the first of the sources, which the others have joined.
+    fn note(&mut self, record: usize, row: usize, sources: Vec<usize>) {
+        let component = sources[0];
+        let joined = sources[1..].to_vec();
         let members = self.members[component].clone();
         let life = &mut self.lives[component];
         life.longest = life.longest.max(members.len());
@@ -218,32 +242,21 @@ impl Replay {
         self.change_deed(Deed::Measurement { leaves, empties });
     }
 
-    /// Whether the plan's own groups, longest sizes and ends are those found here.
-    pub fn agrees(&self, plan: &ActiveComponentPlan) -> bool {
+    /// Whether these groups are the components that live at the end.
+    pub fn ends_with(&self, groups: &[Vec<usize>]) -> bool {
         let live = self.members.iter().filter(|members| !members.is_empty());
         let mut live: Vec<_> = live.collect();
-        let mut groups: Vec<_> = plan.groups.iter().collect();
+        let mut groups: Vec<_> = groups.iter().collect();
         live.sort();
         groups.sort();
-        let emptied = |event: &&Event| matches!(event.deed, Deed::Measurement { .. });
-        let measured = self.events.iter().filter(emptied);
         live == groups
-            && self
-                .lives
-                .iter()
-                .map(|life| life.longest)
-                .eq(plan.component_max_k.iter().copied())
-            && measured.zip(&plan.measurements).all(|(event, step)| {
-                (event.size_after() == 0) == step.deactivate_after
-                    && event.members.len() == step.kernel.action.nqubits
-            })
     }
 }
 
 #[cfg(test)]
 mod tests {
     use super::*;
-    use midvokt::{plan, Head, Record};
+    use midvokt::{plan, ActiveComponentPlan, Head, Record};
 
     /// Three coordinates: two joins, a promotion, and measurements until one member is left.
     fn planned() -> ActiveComponentPlan {
@@ -262,10 +275,15 @@ mod tests {
         plan(&head, &records).unwrap()
     }
 
+    /// The plan followed.
+    fn followed() -> Replay {
+        Replay::of(&StoredPlan::from(planned())).unwrap()
+    }
+
     #[test]
     fn lives_end_where_the_plan_ends_them() {
         let plan = planned();
-        let replay = Replay::of(&plan);
+        let replay = followed();
         let ends: Vec<_> = replay.lives.iter().map(|life| life.end).collect();
         assert_eq!(
             ends,
@@ -278,12 +296,12 @@ mod tests {
         );
         assert_eq!(replay.lives[3].born, Some(3));
         assert_eq!(replay.lives[0].sizes, [(0, 2), (1, 2)]);
-        assert!(replay.agrees(&plan));
+        assert!(replay.ends_with(&plan.groups));
     }
 
     #[test]
     fn events_hold_members_in_the_order_of_local_bits() {
-        let replay = Replay::of(&planned());
+        let replay = followed();
         assert_eq!(replay.event(0).unwrap().members, [0, 2]);
         let measured = replay.event(1).unwrap();
         assert_eq!(
@@ -298,12 +316,18 @@ mod tests {
             }
         );
         assert_eq!(replay.event(2), None);
-        assert_eq!(replay.event(4).unwrap().size_after(), 0);
+        assert_eq!(
+            replay.event(4).unwrap().deed,
+            Deed::Measurement {
+                leaves: 3,
+                empties: true
+            }
+        );
     }
 
     #[test]
     fn a_component_lives_between_birth_and_end() {
-        let replay = Replay::of(&planned());
+        let replay = followed();
         let joined = &replay.lives[1];
         assert!(joined.before(0) && joined.after(0) && joined.before(1) && !joined.after(1));
         let promoted = &replay.lives[3];
@@ -314,9 +338,8 @@ mod tests {
     #[test]
     fn another_plan_does_not_agree() {
         let mut plan = planned();
-        let replay = Replay::of(&plan);
         plan.groups[0].swap(0, 1);
-        assert!(!replay.agrees(&plan));
+        assert!(!followed().ends_with(&plan.groups));
     }
 
     #[test]
@@ -326,7 +349,7 @@ mod tests {
             max_k: 7,
             nexpvals: 0,
         };
-        let plan = plan(&head, &[]).unwrap();
-        assert_eq!(Replay::of(&plan), Replay::default());
+        let plan = StoredPlan::from(plan(&head, &[]).unwrap());
+        assert_eq!(Replay::of(&plan), Ok(Replay::default()));
     }
 }

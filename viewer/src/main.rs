@@ -1,5 +1,6 @@
 //! The command behind ./show: reads a circuit file, plans it through the proved library, and
-//! prints the plan or the refusal. Nothing in here is proved; nothing in here plans.
+//! prints the plan or the refusal; or reads a stored plan and prints that. Nothing in here is proved;
+//! nothing in here plans.
 
 mod angle;
 mod choice;
@@ -8,6 +9,7 @@ mod fields;
 mod figures;
 mod files;
 mod json;
+mod kept;
 mod lanes;
 mod line;
 mod lives;
@@ -15,10 +17,12 @@ mod notes;
 mod options;
 mod pauli;
 mod planning;
+mod sense;
 mod shapes;
 mod svg;
 mod terminal;
 mod text;
+mod trailer;
 mod words;
 mod works;
 
@@ -28,9 +32,10 @@ use std::process::ExitCode;
 
 use circuit::Circuit;
 use files::Output;
+use kept::Fault;
 use line::visible;
 use midvokt::Refusal;
-use options::{Options, Request};
+use options::{Options, Request, Subject};
 use planning::View;
 
 const PLANNED: u8 = 0;
@@ -70,48 +75,130 @@ fn write(outputs: &[Output<'_>]) -> Result<(), String> {
     })
 }
 
+/// What is not written where there is no plan, a line each.
+fn unwritten(options: &Options) -> String {
+    let line = |what: &str| format!("  no {what} is written, since there is no plan\n");
+    let picture = options.svg.as_ref().map(|_| line("picture"));
+    let stored = options.store.as_ref().map(|_| line("stored plan"));
+    picture.into_iter().chain(stored).collect()
+}
+
 /// What is said of a refusal.
-fn refused(options: &Options, circuit: &Circuit, refusal: &Refusal) -> Answer {
-    let name = &options.circuit.to_string_lossy();
-    let mut text = match options.json {
+fn refused(options: &Options, name: &str, circuit: &Circuit, refusal: &Refusal) -> Answer {
+    let text = match options.json {
         true => json::refusal(name, circuit, refusal),
-        false => text::refusal(&visible(name), circuit, refusal, &options.style),
+        false => {
+            let text = text::refusal(&visible(name), circuit, refusal, &options.style);
+            text + &unwritten(options)
+        }
     };
-    if options.svg.is_some() && !options.json {
-        text.push_str("  no picture is written, since there is no plan\n");
-    }
     Answer {
         text,
         status: REFUSED,
     }
 }
 
+/// What is said of a plan.
+fn planned(options: &Options, view: &View<'_>) -> Answer {
+    let text = match options.json {
+        true => json::plan(view),
+        false => text::plan(view, &options.style),
+    };
+    Answer {
+        text,
+        status: PLANNED,
+    }
+}
+
+/// The picture that is asked for, if there is a plan.
+fn picture<'a>(options: &'a Options, view: Option<&View<'_>>) -> Option<Output<'a>> {
+    let (path, view) = options.svg.as_ref().zip(view)?;
+    let bytes = svg::picture(view).into_bytes();
+    Some(Output { path, bytes })
+}
+
+/// The stored plan that is asked for, of a circuit that has a plan.
+fn stored<'a>(
+    options: &'a Options,
+    name: &str,
+    circuit: &Circuit,
+) -> Result<Option<Output<'a>>, String> {
+    let Some(path) = &options.store else {
+        return Ok(None);
+    };
+    let bytes = planning::stored(circuit);
+    let bytes = bytes.map_err(|refusal| format!("{}: {refusal}\n", visible(name)))?;
+    Ok(Some(Output { path, bytes }))
+}
+
 /// Plans the circuit, writes the files that are asked for, and gives what is printed.
-fn show(options: &Options) -> Result<Answer, String> {
+fn show(options: &Options, path: &Path) -> Result<Answer, String> {
+    let name = path.to_string_lossy();
+    let circuit = read(path, &visible(&name))?;
+    let view = View::of(&name, &circuit);
+    let words = options.words.as_ref().map(|path| Output {
+        path,
+        bytes: words::encode(&circuit),
+    });
+    let svg = picture(options, view.as_ref().ok());
+    let store = match view {
+        Ok(_) => stored(options, &name, &circuit)?,
+        Err(_) => None,
+    };
+    write(
+        &[words, svg, store]
+            .into_iter()
+            .flatten()
+            .collect::<Vec<_>>(),
+    )?;
+    Ok(match view {
+        Ok(view) => planned(options, &view),
+        Err(refusal) => refused(options, &name, &circuit, &refusal),
+    })
+}
+
+/// What is said of a file that holds no plan that can be shown.
+fn faulty(options: &Options, name: &str, fault: &Fault) -> Answer {
+    let text = match (options.json, fault) {
+        (false, _) => {
+            let name = visible(name);
+            kept::text(&name, fault, &unwritten(options), &options.style)
+        }
+        (true, Fault::Refused(refusal, reason)) => json::stored_refusal(name, refusal, reason),
+        (true, Fault::Senseless(what, scalars)) => json::senseless(name, what, scalars.as_ref()),
+    };
+    Answer {
+        text,
+        status: REFUSED,
+    }
+}
+
+/// Reads a stored plan, writes the picture that is asked for, and gives what is printed.
+fn show_stored(options: &Options, path: &Path) -> Result<Answer, String> {
+    let name = path.to_string_lossy();
+    let bytes = files::read_at_most(path, kept::MOST_BYTES)
+        .map_err(|error| format!("{}: cannot be read: {error}\n", visible(&name)))?;
+    let view = match kept::view(&name, bytes.as_deref()) {
+        Ok(view) => view,
+        Err(fault) => return Ok(faulty(options, &name, &fault)),
+    };
+    write(
+        &picture(options, Some(&view))
+            .into_iter()
+            .collect::<Vec<_>>(),
+    )?;
+    Ok(planned(options, &view))
+}
+
+/// Shows a circuit's plan or a stored one, where each output is a file of its own.
+fn show_subject(options: &Options) -> Result<Answer, String> {
     options
         .files_differ()
         .map_err(|message| format!("show: {message}\n"))?;
-    let name = options.circuit.to_string_lossy();
-    let circuit = read(&options.circuit, &visible(&name))?;
-    let view = View::of(&name, &circuit);
-    let output = |path, bytes| Some(Output { path, bytes });
-    let words = options.words.as_ref();
-    let words = words.and_then(|path| output(path, words::encode(&circuit)));
-    let svg = options.svg.as_ref().zip(view.as_ref().ok());
-    let svg = svg.and_then(|(path, view)| output(path, svg::picture(view).into_bytes()));
-    write(&[words, svg].into_iter().flatten().collect::<Vec<_>>())?;
-    let view = match view {
-        Ok(view) => view,
-        Err(refusal) => return Ok(refused(options, &circuit, &refusal)),
-    };
-    let text = match options.json {
-        true => json::plan(&view),
-        false => text::plan(&view, &options.style),
-    };
-    Ok(Answer {
-        text,
-        status: PLANNED,
-    })
+    match &options.subject {
+        Subject::Circuit(path) => show(options, path),
+        Subject::Stored(path) => show_stored(options, path),
+    }
 }
 
 /// What the command line asks for.
@@ -125,7 +212,7 @@ fn answer() -> Result<Answer, String> {
             text: format!("Midvokt {}\n", midvokt::VERSION),
             status: PLANNED,
         }),
-        Ok(Request::Show(options)) => show(&options),
+        Ok(Request::Show(options)) => show_subject(&options),
         Err(message) => Err(format!("show: {message}\n")),
     }
 }

@@ -13,7 +13,8 @@ use crate::terminal;
 pub const HELP: &str = "\
 show: plans a circuit through the proved library and shows the plan
 
-  ./show [--json] [--svg FILE] [--words FILE] [--ascii] [--columns N] CIRCUIT
+  ./show [--json] [--svg FILE] [--words FILE] [--store FILE] [--ascii]
+         [--columns N] CIRCUIT          or --stored FILE in place of CIRCUIT
 
 CIRCUIT is a file, or - for standard input. One record a line; # is a comment.
   initial N              active coordinates at the start (needed, comes first)
@@ -40,27 +41,41 @@ record; the components' lives as lanes; the final groups.
   --svg FILE    the lanes as a picture besides
   --words FILE  head (3 words) and records (8 each) besides: 64 bits each,
                 little-endian
+  --store FILE  the plan as a file besides, to be kept (include/midvokt.h)
+  --stored FILE shows such a file, or by - standard input; with no circuit, no
+                --words and no --store
   --ascii       lanes without box characters
   --columns N   the text's width, 40 to 1000; else the terminal's, or 80
   --version     the version
---svg=FILE is --svg FILE; behind -- stands a circuit's name. A file may be
-neither the circuit nor another output; where one cannot be written, none is.
-Exit status: 0 planned; 1 refused; 2 a bad file (FILE:LINE:COLUMN: expected ...,
-found ...), an unreadable one or a bad option; 3 the viewer cannot be built.
+--svg=FILE is --svg FILE; behind -- stands a circuit's name. An output may be
+neither what is read nor another output; where one cannot be written, none is.
+Exit status: 0 planned; 1 refused, or a stored file is no plan; 2 a bad file
+(FILE:LINE:COLUMN: expected ..., found ...), an unreadable one or a bad option;
+3 the viewer cannot be built.
 ";
 
 /// The least and the most columns, and those of text that goes to no terminal.
 const COLUMNS: std::ops::RangeInclusive<usize> = 40..=1000;
 const USUAL_COLUMNS: usize = 80;
 
+/// What is shown.
+pub enum Subject {
+    /// The plan of the circuit in this file.
+    Circuit(PathBuf),
+    /// The plan that is stored in this file.
+    Stored(PathBuf),
+}
+
 /// What the command line asks for.
 pub struct Options {
-    /// The circuit's file.
-    pub circuit: PathBuf,
+    /// What is shown.
+    pub subject: Subject,
     /// Where the picture goes.
     pub svg: Option<PathBuf>,
     /// Where the words go.
     pub words: Option<PathBuf>,
+    /// Where the stored plan goes.
+    pub store: Option<PathBuf>,
     /// Whether the plan is printed for programs.
     pub json: bool,
     /// How wide the text is and how the lanes are drawn.
@@ -93,6 +108,8 @@ struct Reader {
     circuit: Option<PathBuf>,
     svg: Option<PathBuf>,
     words: Option<PathBuf>,
+    store: Option<PathBuf>,
+    stored: Option<PathBuf>,
     columns: Option<usize>,
     json: bool,
     ascii: bool,
@@ -166,15 +183,17 @@ impl Reader {
     ) -> Result<Next, String> {
         let (name, given) = parted(&word);
         match name.as_str() {
-            "--svg" => once(&mut self.svg, &name, value(&name, given, words)?.into())?,
-            "--words" => once(&mut self.words, &name, value(&name, given, words)?.into())?,
+            "--svg" | "--words" | "--store" | "--stored" => {
+                let file = value(&name, given, words)?.into();
+                once(self.file(&name), &name, file)?;
+            }
             "--columns" => {
                 let number = columns(&value(&name, given, words)?)?;
                 once(&mut self.columns, &name, number)?;
             }
             _ if given.is_some() && name != "--" => {
                 return Err(format!(
-                    "expected --svg=, --words= or --columns=, found {}",
+                    "expected --svg=, --words=, --store=, --stored= or --columns=, found {}",
                     shown(&word)
                 ));
             }
@@ -194,6 +213,16 @@ impl Reader {
         Ok(Next::Word)
     }
 
+    /// Where the file of an option goes that names one.
+    fn file(&mut self, name: &str) -> &mut Option<PathBuf> {
+        match name {
+            "--svg" => &mut self.svg,
+            "--words" => &mut self.words,
+            "--store" => &mut self.store,
+            _ => &mut self.stored,
+        }
+    }
+
     /// The circuit's name, which stands once.
     fn name(&mut self, word: OsString) -> Result<(), String> {
         if word.is_empty() {
@@ -202,17 +231,41 @@ impl Reader {
         once(&mut self.circuit, "a circuit", word.into())
     }
 
-    /// The options, if a circuit is named.
+    /// What is shown: a circuit's plan, or a stored one, with which neither a circuit nor what is made
+    /// of one goes.
+    fn subject(&self) -> Result<Subject, String> {
+        let Some(stored) = &self.stored else {
+            let none = "expected a circuit file or -, found none; --help tells more";
+            return self
+                .circuit
+                .clone()
+                .map(Subject::Circuit)
+                .ok_or(none.to_owned());
+        };
+        let others = [
+            ("circuit", &self.circuit),
+            ("--words", &self.words),
+            ("--store", &self.store),
+        ];
+        for (name, other) in others {
+            if let Some(other) = other {
+                let other = shown(other.as_os_str());
+                return Err(format!("expected no {name} beside --stored, found {other}"));
+            }
+        }
+        Ok(Subject::Stored(stored.clone()))
+    }
+
+    /// The options, if a circuit or a stored plan is named.
     fn finish(self) -> Result<Options, String> {
-        let circuit = self
-            .circuit
-            .ok_or("expected a circuit file or -, found none; --help tells more")?;
+        let subject = self.subject()?;
         let of_terminal = || terminal::columns().unwrap_or(USUAL_COLUMNS);
         let columns = self.columns.unwrap_or_else(of_terminal);
         Ok(Options {
-            circuit,
+            subject,
             svg: self.svg,
             words: self.words,
+            store: self.store,
             json: self.json,
             style: Style {
                 columns: columns.clamp(*COLUMNS.start(), *COLUMNS.end()),
@@ -225,20 +278,25 @@ impl Reader {
 impl Options {
     /// The files that are written, each with the option that names it.
     fn outputs(&self) -> Vec<(&'static str, &PathBuf)> {
-        let all = [("--svg", &self.svg), ("--words", &self.words)];
+        let all = [
+            ("--svg", &self.svg),
+            ("--words", &self.words),
+            ("--store", &self.store),
+        ];
         let named = all.map(|(name, file)| Some((name, file.as_ref()?)));
         named.into_iter().flatten().collect()
     }
 
-    /// Whether each output is a file of its own: neither the circuit, nor another output, nor
+    /// Whether each output is a file of its own: neither what is shown, nor another output, nor
     /// where the text is printed.
     pub fn files_differ(&self) -> Result<(), String> {
         let printed = "standard output, where the plan is printed".to_owned();
+        let (read, name) = match &self.subject {
+            Subject::Circuit(path) => (path, "the circuit"),
+            Subject::Stored(path) => (path, "the stored plan"),
+        };
         let mut known = vec![
-            (
-                Identity::of_circuit(&self.circuit),
-                "the circuit".to_owned(),
-            ),
+            (Identity::of_read(read), name.to_owned()),
             (Identity::of_printed(), printed.clone()),
         ];
         for (name, path) in self.outputs() {

@@ -8,7 +8,7 @@ use crate::planning::View;
 use crate::shapes::{self, escaped, line, shade, share, stroke};
 use crate::shapes::{FAINT, GREY, INK, LARGEST, WHITE};
 use crate::text;
-use crate::works;
+use crate::works::Works;
 
 /// Where the first lane begins.
 const LEFT: f64 = 52.0;
@@ -200,11 +200,13 @@ impl Picture<'_> {
         };
         let why = match &self.view.choice {
             Choice::Unread(reason) => format!("{choice}: {reason}; no record is read"),
+            Choice::Nothing => format!("{choice}: {}", text::NOTHING),
             Choice::Tested { tests, .. } => format!("{choice}: {}", text::verdict(tests)),
         };
-        let (dense, component) = works::digits(plan);
+        let works = Works::of(self.view);
+        let compared = works.comparison().join("; ");
+        let (dense, component) = works.digits();
         let works = format!("work: {dense} dense, {component} in components");
-        let compared = works::comparison(plan).join("; ");
         let dimensions = format!(
             "dimensions: peak {}, allocated {}, dense peak {}",
             figures::whole(plan.component_peak_live_dimension as u64),
@@ -401,18 +403,26 @@ impl Picture<'_> {
         }
     }
 
+    /// What the tooltip of a mark says: the record, its line where there is a circuit, its deed.
+    fn mark_title(&self, event: &Event) -> String {
+        let record = event.record;
+        let place = match &self.view.planned {
+            Some(planned) => {
+                let placed = &planned.circuit.records[record];
+                let said = figures::cut(&placed.text, 80);
+                format!("record {record}, line {}: {said}", placed.line)
+            }
+            None => format!("record {record}"),
+        };
+        let deed = text::deed(self.view, event);
+        format!("{}\n{}", escaped(&place), escaped(&deed))
+    }
+
     /// The mark of an event on its component's lane.
     fn mark(&mut self, event: &Event) {
         let (record, component) = (event.record, event.component);
         let (x, y) = (self.column(record), self.layout.y(component));
-        let placed = &self.view.circuit.records[record];
-        let said = figures::cut(&placed.text, 80);
-        let about = format!(
-            "record {record}, line {}: {}\n{}",
-            placed.line,
-            escaped(&said),
-            escaped(&text::deed(self.view, event))
-        );
+        let about = self.mark_title(event);
         let class = shapes::class(event.deed);
         let shape = shapes::mark(event.deed, x, y, self.layout.mark());
         self.add(&format!(

@@ -1,5 +1,6 @@
 //! The plan as text for a person: the choice, the works, the dimensions, a line a record, the
-//! lanes and the final groups; and a refusal in words.
+//! lanes and the final groups; and a refusal in words. A stored plan is shown likewise, without what
+//! only its circuit tells.
 
 use std::fmt::Write;
 
@@ -13,7 +14,7 @@ use crate::line::visible;
 use crate::lives::{Deed, Event};
 use crate::notes;
 use crate::planning::View;
-use crate::works;
+use crate::works::Works;
 
 /// The most characters of a record's own line, and of a local Pauli, that the table shows.
 const MOST_OF_LINE: usize = 32;
@@ -21,6 +22,9 @@ const MOST_OF_PAULI: usize = 24;
 /// The most characters of a refused record's line that are shown, and the most notes.
 const MOST_REPEATED: usize = 80;
 const MOST_NOTES: usize = 8;
+/// What is said of a stored plan with neither steps nor components.
+pub const NOTHING: &str =
+    "there are neither steps nor components: no record was read, or there was none";
 
 /// The circuit's name and size.
 fn heading(name: &str, circuit: &Circuit, columns: usize) -> String {
@@ -36,6 +40,24 @@ fn heading(name: &str, circuit: &Circuit, columns: usize) -> String {
         figures::count(circuit.records.len() as u64, "record", "records")
     );
     format!("{name}\n{}", figures::wrapped("", &size, columns))
+}
+
+/// The stored plan's name and size.
+fn stored_heading(view: &View<'_>, columns: usize) -> String {
+    let plan = &view.plan;
+    let components = |number: usize| figures::count(number as u64, "component", "components");
+    let records = plan.instruction_steps.len() as u64;
+    let size = format!(
+        "a stored plan: {} at the start, {} in all, {}",
+        components(plan.initial_components),
+        figures::whole(plan.component_count as u64),
+        figures::count(records, "record", "records")
+    );
+    format!(
+        "{}\n{}",
+        visible(view.name),
+        figures::wrapped("", &size, columns)
+    )
 }
 
 /// What may be meant otherwise, a line each; empty where nothing is to be said.
@@ -92,14 +114,15 @@ fn choice(view: &View<'_>, columns: usize) -> String {
         true => "SELECTED",
         false => "NOT SELECTED",
     };
+    let said = |words: &str| figures::wrapped(&format!("{word}: "), words, columns);
     let (tests, agrees) = match &view.choice {
         Choice::Unread(reason) => {
-            let words = format!("{reason}, so that planning reads no record");
-            return figures::wrapped(&format!("{word}: "), &words, columns);
+            return said(&format!("{reason}, so that planning reads no record"));
         }
+        Choice::Nothing => return said(NOTHING),
         Choice::Tested { tests, agrees } => (tests, agrees),
     };
-    let mut text = figures::wrapped(&format!("{word}: "), &verdict(tests), columns);
+    let mut text = said(&verdict(tests));
     text.extend(tests.iter().map(|test| test_line(test, columns)));
     if !agrees {
         let words = "The tests computed here say otherwise than the plan. The plan counts.";
@@ -110,8 +133,9 @@ fn choice(view: &View<'_>, columns: usize) -> String {
 
 /// The works, and how many times cheaper the components are.
 fn work(view: &View<'_>, columns: usize) -> String {
-    let (dense, component) = works::digits(&view.plan);
-    let compared = works::comparison(&view.plan);
+    let works = Works::of(view);
+    let (dense, component) = works.digits();
+    let compared = works.comparison();
     let compared = compared
         .iter()
         .map(|line| figures::wrapped("  ", line, columns));
@@ -121,22 +145,31 @@ fn work(view: &View<'_>, columns: usize) -> String {
     )
 }
 
+/// Where the dense peak comes from, and how wide the register is, as far as a circuit tells.
+fn origin(view: &View<'_>) -> String {
+    let Some(planned) = &view.planned else {
+        return String::new();
+    };
+    if !view.is_read() {
+        return ", from max".to_owned();
+    }
+    let widest = figures::count(planned.circuit.widest(), "coordinate", "coordinates");
+    format!(", from max; the widest register has {widest}")
+}
+
 /// The dimensions; where no record is read, only what max gives.
 fn dimensions(view: &View<'_>, columns: usize) -> String {
     let plan = &view.plan;
     let peak = figures::dimension(plan.dense_peak_dimension as u64);
-    let dense = |words: &str| figures::wrapped("  dense peak   ", words, columns);
-    if let Choice::Unread(_) = view.choice {
-        return format!("Dimensions\n{}", dense(&format!("{peak}, from max")));
+    let dense = format!("{peak}{}", origin(view));
+    let dense = figures::wrapped("  dense peak   ", &dense, columns);
+    if !view.is_read() {
+        return format!("Dimensions\n{dense}");
     }
-    let widest = figures::count(view.circuit.widest(), "coordinate", "coordinates");
     format!(
-        "Dimensions\n  peak         {}\n  allocated    {}\n{}",
+        "Dimensions\n  peak         {}\n  allocated    {}\n{dense}",
         figures::whole(plan.component_peak_live_dimension as u64),
         figures::whole(plan.component_allocated_dimension as u64),
-        dense(&format!(
-            "{peak}, from max; the widest register has {widest}"
-        )),
     )
 }
 
@@ -168,14 +201,14 @@ pub fn deed(view: &View<'_>, event: &Event) -> String {
     }
 }
 
-/// What becomes of a record that concerns no component.
-fn passed_over(record: &Record, kind: Kind) -> &'static str {
+/// What becomes of a record that concerns no component; a stored plan does not tell what it was.
+fn passed_over(record: Option<&Record>, kind: Kind) -> &'static str {
     match record {
         _ if kind == Kind::IgnoredGlobalPhase => "a global phase: no coordinate is active",
-        Record::ActiveMeasurement(_) => "an expectation: nothing to plan",
-        Record::RecordMeasurement => "a classical record: nothing to plan",
-        Record::RecordDetector => "a classical detector: nothing to plan",
-        Record::DormantBranch => "a branch off the register: nothing to plan",
+        Some(Record::ActiveMeasurement(_)) => "an expectation: nothing to plan",
+        Some(Record::RecordMeasurement) => "a classical record: nothing to plan",
+        Some(Record::RecordDetector) => "a classical detector: nothing to plan",
+        Some(Record::DormantBranch) => "a branch off the register: nothing to plan",
         _ => "nothing to plan",
     }
 }
@@ -186,14 +219,26 @@ pub fn outcome(view: &View<'_>, record: usize) -> String {
         Some(event) => deed(view, event),
         None => {
             let kind = view.plan.instruction_steps[record].kind;
-            passed_over(&view.circuit.records[record].record, kind).to_owned()
+            let circuit = view.planned.as_ref().map(|planned| planned.circuit);
+            let placed = circuit.map(|circuit| &circuit.records[record].record);
+            passed_over(placed, kind).to_owned()
         }
     }
 }
 
+/// One line a record of a stored plan, or more where the text is narrow.
+fn stored_records(view: &View<'_>, columns: usize) -> String {
+    let mut text = format!("Records\n  {:>4}  plan\n", "no.");
+    for record in 0..view.plan.instruction_steps.len() {
+        let first = format!("  {record:>4}  ");
+        text.push_str(&figures::wrapped(&first, &outcome(view, record), columns));
+    }
+    text
+}
+
 /// One line a record, or more where the text is narrow.
-fn records(view: &View<'_>, columns: usize) -> String {
-    let all = &view.circuit.records;
+fn records(view: &View<'_>, circuit: &Circuit, columns: usize) -> String {
+    let all = &circuit.records;
     let most = MOST_OF_LINE.min(columns * 3 / 10);
     let shown = all.iter().map(|placed| figures::cut(&placed.text, most));
     let shown: Vec<_> = shown.collect();
@@ -211,9 +256,14 @@ fn records(view: &View<'_>, columns: usize) -> String {
     text
 }
 
-/// The components that live at the end, with their members in order.
+/// The components that live at the end, with their members in order. A stored plan has no groups,
+/// so that they are told from its rows.
 fn groups(view: &View<'_>) -> String {
-    let mut text = "Final groups\n".to_owned();
+    let heading = match view.planned {
+        Some(_) => "Final groups",
+        None => "Live at the end, told from the rows",
+    };
+    let mut text = format!("{heading}\n");
     let live = view.replay.members.iter().enumerate();
     for (component, members) in live.filter(|(_, members)| !members.is_empty()) {
         let _ = writeln!(
@@ -222,30 +272,44 @@ fn groups(view: &View<'_>) -> String {
             figures::list(members)
         );
     }
-    if view.plan.groups.is_empty() {
+    if view.replay.members.iter().all(Vec::is_empty) {
         text.push_str("  none: no coordinate is active at the end\n");
     }
     text
 }
 
+/// The heading, the choice and, for a circuit, the notes.
+fn opening(view: &View<'_>, columns: usize) -> Vec<String> {
+    let choice = choice(view, columns);
+    match &view.planned {
+        Some(planned) => {
+            let name = visible(view.name);
+            let heading = heading(&name, planned.circuit, columns);
+            vec![heading, choice, noted(planned.circuit, columns)]
+        }
+        None => vec![stored_heading(view, columns), choice],
+    }
+}
+
 /// The whole view of a plan.
 pub fn plan(view: &View<'_>, style: &Style) -> String {
     let columns = style.columns;
-    let name = visible(view.name);
-    let mut parts = vec![heading(&name, view.circuit, columns), choice(view, columns)];
-    parts.push(noted(view.circuit, columns));
+    let mut parts = opening(view, columns);
     parts.push(work(view, columns));
     parts.push(dimensions(view, columns));
-    if let Choice::Tested { .. } = view.choice {
-        if !view.circuit.records.is_empty() {
-            parts.push(records(view, columns));
+    if view.is_read() {
+        if !view.plan.instruction_steps.is_empty() {
+            parts.push(match &view.planned {
+                Some(planned) => records(view, planned.circuit, columns),
+                None => stored_records(view, columns),
+            });
         }
         if !view.replay.lives.is_empty() {
             parts.push(lanes::picture(&view.replay, style));
         }
         parts.push(groups(view));
     }
-    if !view.replay.agrees(&view.plan) {
+    if !view.agrees {
         let words = "The lanes drawn here do not agree with the plan. The plan counts.";
         parts.push(figures::wrapped("", words, columns));
     }

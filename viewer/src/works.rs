@@ -1,9 +1,11 @@
 //! The works of a plan as a person reads them: whole numbers where the plan has them, else floats,
-//! and how many times cheaper the components are, with the exact remainder.
+//! and how many times cheaper the components are, with the exact remainder. A stored plan has its
+//! works as floats only.
 
-use midvokt::{ActiveComponentPlan, WholeWorks};
+use midvokt::WholeWorks;
 
 use crate::figures;
+use crate::planning::View;
 
 /// What is said where the plan has no whole numbers.
 const TOO_WIDE: &str =
@@ -21,6 +23,9 @@ fn times(number: f64) -> String {
 fn roughly(dense: f64, component: f64) -> String {
     if component == 0.0 {
         return "the components have no work".to_owned();
+    }
+    if dense == 0.0 {
+        return "the components have work, and one wide register has none".to_owned();
     }
     let (number, word) = match dense >= component {
         true => (dense / component, "cheaper"),
@@ -48,33 +53,57 @@ fn exactly(quotient: u64, remainder: u64, dearer: f64) -> String {
     }
 }
 
-/// Both works in digits: that of one wide register, then that of the components.
-pub fn digits(plan: &ActiveComponentPlan) -> (String, String) {
-    match plan.whole_works {
-        WholeWorks::TooWide => (
-            figures::float(plan.estimated_dense_work),
-            figures::float(plan.estimated_component_work),
-        ),
-        WholeWorks::WithoutQuotient { dense } => (figures::whole(dense), figures::whole(0)),
-        WholeWorks::WithQuotient {
-            dense, component, ..
-        } => (figures::whole(dense), figures::whole(component)),
-    }
+/// The works of a plan.
+#[derive(Clone, Copy)]
+pub struct Works {
+    /// That of one wide register.
+    dense: f64,
+    /// That of the components.
+    component: f64,
+    /// Both as whole numbers; none for a stored plan.
+    whole: Option<WholeWorks>,
 }
 
-/// How the components' work compares with that of one wide register, a line or two.
-pub fn comparison(plan: &ActiveComponentPlan) -> Vec<String> {
-    let (dense, component) = (plan.estimated_dense_work, plan.estimated_component_work);
-    match plan.whole_works {
-        WholeWorks::TooWide => vec![roughly(dense, component), TOO_WIDE.to_owned()],
-        WholeWorks::WithoutQuotient { .. } => {
-            vec!["no quotient: the component work is 0".to_owned()]
+impl Works {
+    /// The works of a plan.
+    pub fn of(view: &View<'_>) -> Self {
+        Self {
+            dense: view.plan.estimated_dense_work,
+            component: view.plan.estimated_component_work,
+            whole: view.whole_works(),
         }
-        WholeWorks::WithQuotient {
-            quotient,
-            remainder,
-            ..
-        } => vec![exactly(quotient, remainder, component / dense)],
+    }
+
+    /// Both in digits: that of one wide register, then that of the components.
+    pub fn digits(&self) -> (String, String) {
+        match self.whole {
+            None | Some(WholeWorks::TooWide) => {
+                (figures::float(self.dense), figures::float(self.component))
+            }
+            Some(WholeWorks::WithoutQuotient { dense }) => {
+                (figures::whole(dense), figures::whole(0))
+            }
+            Some(WholeWorks::WithQuotient {
+                dense, component, ..
+            }) => (figures::whole(dense), figures::whole(component)),
+        }
+    }
+
+    /// How the components' work compares with that of one wide register, a line or two.
+    pub fn comparison(&self) -> Vec<String> {
+        let rough = roughly(self.dense, self.component);
+        match self.whole {
+            None => vec![rough],
+            Some(WholeWorks::TooWide) => vec![rough, TOO_WIDE.to_owned()],
+            Some(WholeWorks::WithoutQuotient { .. }) => {
+                vec!["no quotient: the component work is 0".to_owned()]
+            }
+            Some(WholeWorks::WithQuotient {
+                quotient,
+                remainder,
+                ..
+            }) => vec![exactly(quotient, remainder, self.component / self.dense)],
+        }
     }
 }
 
@@ -82,27 +111,26 @@ pub fn comparison(plan: &ActiveComponentPlan) -> Vec<String> {
 mod tests {
     use super::*;
 
-    /// A plan of these works, with nothing else in it.
-    fn plan(whole_works: WholeWorks, dense: f64, component: f64) -> ActiveComponentPlan {
-        ActiveComponentPlan {
-            whole_works,
-            estimated_dense_work: dense,
-            estimated_component_work: component,
-            ..ActiveComponentPlan::default()
+    /// Works of a plan that was made now.
+    fn works(whole: WholeWorks, dense: f64, component: f64) -> Works {
+        Works {
+            dense,
+            component,
+            whole: Some(whole),
         }
     }
 
     /// What is said of two whole works: both in digits, and how they compare.
     fn said(dense: u64, component: u64) -> (String, String, Vec<String>) {
-        let works = WholeWorks::WithQuotient {
+        let whole = WholeWorks::WithQuotient {
             dense,
             component,
             quotient: dense / component,
             remainder: dense % component,
         };
-        let plan = plan(works, dense as f64, component as f64);
-        let (dense, component) = digits(&plan);
-        (dense, component, comparison(&plan))
+        let works = works(whole, dense as f64, component as f64);
+        let (dense, component) = works.digits();
+        (dense, component, works.comparison())
     }
 
     #[test]
@@ -141,19 +169,19 @@ mod tests {
 
     #[test]
     fn without_component_work_there_is_no_quotient() {
-        let plan = plan(WholeWorks::WithoutQuotient { dense: 1024 }, 1024.0, 0.0);
-        assert_eq!(digits(&plan), ("1,024".to_owned(), "0".to_owned()));
-        assert_eq!(comparison(&plan), ["no quotient: the component work is 0"]);
+        let works = works(WholeWorks::WithoutQuotient { dense: 1024 }, 1024.0, 0.0);
+        assert_eq!(works.digits(), ("1,024".to_owned(), "0".to_owned()));
+        assert_eq!(works.comparison(), ["no quotient: the component work is 0"]);
     }
 
     #[test]
     fn wide_works_are_floats() {
-        let wide = |dense, component| plan(WholeWorks::TooWide, dense, component);
+        let wide = |dense, component| works(WholeWorks::TooWide, dense, component);
         let large = wide(2f64.powi(512), 2f64.powi(61));
-        let (dense, component) = digits(&large);
+        let (dense, component) = large.digits();
         assert_eq!(dense, "1.3408e154");
         assert_eq!(component, "2,305,843,009,213,693,952");
-        let first = |dense, component| comparison(&wide(dense, component))[0].clone();
+        let first = |dense, component| wide(dense, component).comparison()[0].clone();
         assert_eq!(
             first(80.0, 10.0),
             "the components are about 8.00 times cheaper"
@@ -167,6 +195,24 @@ mod tests {
             "the components are about 500,000 times cheaper"
         );
         assert_eq!(first(0.0, 0.0), "the components have no work");
-        assert!(comparison(&large)[1].starts_with("too wide for whole numbers"));
+        assert_eq!(
+            first(0.0, 1.0),
+            "the components have work, and one wide register has none"
+        );
+        assert!(large.comparison()[1].starts_with("too wide for whole numbers"));
+    }
+
+    #[test]
+    fn stored_works_are_floats_and_not_too_wide() {
+        let stored = Works {
+            dense: 26_624.0,
+            component: 334.0,
+            whole: None,
+        };
+        assert_eq!(stored.digits(), ("26,624".to_owned(), "334".to_owned()));
+        assert_eq!(
+            stored.comparison(),
+            ["the components are about 79.71 times cheaper"]
+        );
     }
 }
