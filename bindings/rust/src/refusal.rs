@@ -150,17 +150,9 @@ impl Reason {
                 "the measured x mask is 0, the z mask is not, and the phase exponent is 1 or 3"
             }
             Self::Identity => "the measured masks are both 0",
-            Self::File => {
-                "the file is under 128 bytes or no multiple of 8, or its length or version word is \
-                 wrong"
-            }
-            Self::Sections => {
-                "the file's sections do not follow each other from its first word to its trailer"
-            }
-            Self::Lengths => {
-                "a section has a count that no plan has, or the buffer for it or for the file is \
-                 too short"
-            }
+            Self::File => "the file's length, or the length or version word in it, is wrong",
+            Self::Sections => "the file's sections do not follow each other up to its trailer",
+            Self::Lengths => "a section has a count that no plan has, or a buffer is too short",
             Self::Unnamed(_) => "the number has no name in this version",
         }
     }
@@ -256,6 +248,6 @@ mod tests {
         );
         let of_files = (21..=23).map(said).collect::<Vec<_>>();
         assert!(of_files.iter().all(|said| !said.contains("record 7")));
-        assert!(of_files[0].starts_with("refusal 21: the file is under 128 bytes or no "));
+        assert!(of_files[0].starts_with("refusal 21: the file's length, or the length or "));
     }
 }
