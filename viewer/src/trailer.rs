@@ -166,51 +166,51 @@ mod tests {
     }
 
     #[test]
-    fn each_word_of_a_trailer_is_told() {
+    fn wrong_words_and_places_are_told() {
+        assert_eq!(
+            said(&[(15, 2)]),
+            "21: its version word is 2, and 1 is the one that can be read"
+        );
+        assert_eq!(
+            said(&[(0, 1)]),
+            "22: its steps start at word 1, and word 0 comes next"
+        );
+        assert_eq!(
+            said(&[(3, u64::MAX)]),
+            "22: its merges have 18,446,744,073,709,551,615 words, and 57 are left for them"
+        );
+        assert_eq!(
+            said(&[(13, 7)]),
+            "22: its sections stop at word 62, and its trailer starts at word 63"
+        );
+    }
+
+    #[test]
+    fn wrong_counts_are_told() {
         let words = file();
         let trailer = &words[words.len() - TRAILER_WORDS..];
         let counts: Vec<_> = trailer.iter().skip(1).step_by(2).take(7).copied().collect();
         assert_eq!(counts, [6, 4, 4, 21, 1, 19, 8]);
-        for (changes, wanted) in [
-            (
-                &[(15, 2)][..],
-                "21: its version word is 2, and 1 is the one that can be read",
-            ),
-            (
-                &[(0, 1)],
-                "22: its steps start at word 1, and word 0 comes next",
-            ),
-            (
-                &[(3, u64::MAX)],
-                "22: its merges have 18,446,744,073,709,551,615 words, and 57 are left for them",
-            ),
-            (
-                &[(13, 7)],
-                "22: its sections stop at word 62, and its trailer starts at word 63",
-            ),
-            (
-                &[(1, 7), (2, 7), (3, 3)],
-                "23: its steps have 7 words, which is no multiple of 2",
-            ),
-            (
-                &[(3, 5), (4, 11), (5, 3)],
-                "23: its component_count is 4, and its sizes have 3 words",
-            ),
-            (
-                &[(7, 20), (8, 34), (9, 2)],
-                "23: its rotations have 20 words, which is no multiple of 21",
-            ),
-            (
-                &[(9, 0), (10, 35), (11, 20)],
-                "23: its measurements have 20 words, which is no multiple of 19",
-            ),
-            (
-                &[(9, 2), (10, 37), (12, 56), (13, 7)],
-                "23: its scalar fields have 7 words, and there are 8",
-            ),
-        ] {
-            assert_eq!(said(changes), wanted);
-        }
+        assert_eq!(
+            said(&[(1, 7), (2, 7), (3, 3)]),
+            "23: its steps have 7 words, which is no multiple of 2"
+        );
+        assert_eq!(
+            said(&[(3, 5), (4, 11), (5, 3)]),
+            "23: its component_count is 4, and its sizes have 3 words"
+        );
+        assert_eq!(
+            said(&[(7, 20), (8, 34), (9, 2)]),
+            "23: its rotations have 20 words, which is no multiple of 21"
+        );
+        assert_eq!(
+            said(&[(9, 0), (10, 35), (11, 20)]),
+            "23: its measurements have 20 words, which is no multiple of 19"
+        );
+        assert_eq!(
+            said(&[(9, 2), (10, 37), (12, 56), (13, 7)]),
+            "23: its scalar fields have 7 words, and there are 8"
+        );
     }
 
     #[test]
