@@ -71,7 +71,7 @@ extern "C" {
 #endif
 
 /* The project's version. */
-#define MIDVOKT_VERSION "0.3.0"
+#define MIDVOKT_VERSION "0.4.0"
 
 /* Bytes of stack that each call needs, whatever its arguments. At its worst a call was measured
  * to use 13,448 of them on x86-64: 10,328 of its own, and 3,120 where the system looks up
