@@ -45,14 +45,20 @@ fn heading(name: &str, circuit: &Circuit, columns: usize) -> String {
 /// The stored plan's name and size.
 fn stored_heading(view: &View<'_>, columns: usize) -> String {
     let plan = &view.plan;
-    let components = |number: usize| figures::count(number as u64, "component", "components");
+    let first = plan.initial_components as u64;
     let records = plan.instruction_steps.len() as u64;
-    let size = format!(
-        "a stored plan: {} at the start, {} in all, {}",
-        components(plan.initial_components),
-        figures::whole(plan.component_count as u64),
-        figures::count(records, "record", "records")
-    );
+    let size = match view.choice {
+        Choice::Nothing => format!(
+            "a stored plan: {} at the start, no step and no component",
+            figures::count(first, "coordinate", "coordinates")
+        ),
+        _ => format!(
+            "a stored plan: {} at the start, {} in all, {}",
+            figures::count(first, "component", "components"),
+            figures::whole(plan.component_count as u64),
+            figures::count(records, "record", "records")
+        ),
+    };
     format!(
         "{}\n{}",
         visible(view.name),
