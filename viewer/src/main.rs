@@ -77,7 +77,10 @@ fn write(outputs: &[Output<'_>]) -> Result<(), String> {
 
 /// What is not written where there is no plan, a line each.
 fn unwritten(options: &Options) -> String {
-    let line = |what: &str| format!("  no {what} is written, since there is no plan\n");
+    let line = |what: &str| {
+        let words = format!("no {what} is written, since there is no plan");
+        figures::wrapped("  ", &words, options.style.columns)
+    };
     let picture = options.svg.as_ref().map(|_| line("picture"));
     let stored = options.store.as_ref().map(|_| line("stored plan"));
     picture.into_iter().chain(stored).collect()
