@@ -4,6 +4,8 @@
 include!(concat!(env!("OUT_DIR"), "/modules.rs"));
 
 pub mod answer;
+#[cfg(feature = "library")]
+pub mod calls;
 pub mod expected;
 pub mod generator;
 pub mod input;
@@ -14,6 +16,7 @@ pub mod refusals;
 pub mod replay;
 pub mod rows;
 pub mod stored;
+pub mod stored_file;
 pub mod vectors;
 pub mod walk;
 pub mod whole;

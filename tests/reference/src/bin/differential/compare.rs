@@ -5,28 +5,32 @@ use midvokt_reference::answer::{Answer, answer};
 use midvokt_reference::component_plan;
 use midvokt_reference::expected::{Expected, RESULT_WORDS};
 use midvokt_reference::generator::Numbers;
-use midvokt_reference::input::{BUFFERS, Program, RECORD_WORDS};
+use midvokt_reference::input::{Program, RECORD_WORDS};
 use midvokt_reference::refusals::least_lengths;
+use midvokt_reference::stored_file;
 
 use crate::complex;
 use crate::dropin;
+use crate::files;
 use crate::kernels;
-use crate::memory::Memory;
+use crate::memory::{Lent, Memory};
 use crate::tally::Tally;
+use crate::wanted::Wanted;
 
 /// The refusal that depends on the buffers' lengths.
 const SHORT_BUFFERS: u64 = 3;
 
 /// A thread's memory and what it has counted.
 pub struct Comparison {
-    memory: Memory,
-    random: Numbers,
+    pub memory: Memory,
+    pub random: Numbers,
     spoiled: Option<u64>,
     pub tally: Tally,
 }
 
-/// Changes one bit of one expected word, which ones by the program's number.
-fn spoil(expected: &mut Expected, index: u64) {
+/// Changes one bit of one expected word or of one byte of the file, which ones by the program's
+/// number.
+fn spoil(expected: &mut Expected, file: &mut [u8], index: u64) {
     let Expected {
         number,
         result,
@@ -36,22 +40,11 @@ fn spoil(expected: &mut Expected, index: u64) {
         .chain(result)
         .chain(outputs.iter_mut().flatten())
         .collect();
-    let place = index as usize % words.len();
-    *words[place] ^= 1 << (index % 64);
-}
-
-/// The first place where a buffer is not the used words with zeros behind them.
-fn difference(name: &str, found: &[u64], used: &[u64]) -> Option<String> {
-    let wanted = used.iter().copied().chain(std::iter::repeat(0));
-    let place = found
-        .iter()
-        .zip(wanted.clone())
-        .position(|(&found, wanted)| found != wanted)?;
-    Some(format!(
-        "{name}, word {place}: expected {:#x}, found {:#x}",
-        wanted.clone().nth(place).unwrap_or(0),
-        found[place]
-    ))
+    let place = index as usize % (words.len() + file.len());
+    match place.checked_sub(words.len()) {
+        None => *words[place] ^= 1 << (index % 64),
+        Some(byte) => file[byte] ^= 1 << (index % 8),
+    }
 }
 
 impl Comparison {
@@ -74,25 +67,20 @@ impl Comparison {
         result: usize,
     ) -> Option<String> {
         let words = (&head(program), &program.words[..]);
-        let number = self.memory.call(words, lengths, result, &mut self.random);
+        let lent = Lent {
+            buffers: lengths,
+            file: 0,
+            result,
+        };
+        let number = self.memory.plan(words, &lent, &mut self.random);
         self.tally.calls += 1;
-        if number != expected.number {
-            return Some(format!(
-                "number: expected {}, found {number}",
-                expected.number
-            ));
-        }
-        if let Some(place) = self.memory.overrun() {
-            let name = BUFFERS.get(place).unwrap_or(&"result");
-            return Some(format!("a word beside {name} is written"));
-        }
-        let used = &expected.result[..result.min(RESULT_WORDS)];
-        difference("result", self.memory.result(), used).or_else(|| {
-            (0..BUFFERS.len()).find_map(|place| {
-                let used = &expected.outputs[place];
-                difference(BUFFERS[place], self.memory.output(place), used)
-            })
-        })
+        let wanted = Wanted {
+            number: expected.number,
+            result: &expected.result,
+            outputs: &expected.outputs,
+            file: &[],
+        };
+        wanted.difference(number, &self.memory)
     }
 
     /// Two calls: with the program's own lengths, or just long enough ones, and a whole
@@ -160,11 +148,13 @@ impl Comparison {
         };
         self.tally.count(program, &expected);
         let typed = self.typed(program, &answer, &expected);
+        let mut file = stored_file::of(&expected).unwrap_or_default();
         if self.spoiled == Some(index) {
-            spoil(&mut expected, index);
+            spoil(&mut expected, &mut file, index);
         }
         let mut shown = program.clone();
-        let found = match self.calls(program, &expected) {
+        let found = self.calls(program, &expected);
+        let found = match found.or_else(|| files::compare(self, program, &expected, &file)) {
             Some((lengths, found)) => {
                 shown.lengths = Some(lengths);
                 Some(found)
@@ -180,7 +170,7 @@ impl Comparison {
 }
 
 /// The program's head for the library.
-fn head(program: &Program) -> Head {
+pub fn head(program: &Program) -> Head {
     Head {
         initial_k: program.initial_k,
         max_k: program.max_k,

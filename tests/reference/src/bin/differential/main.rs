@@ -4,7 +4,8 @@
 //! planned by the library in buffers of noise. Every word that a call returns and writes has
 //! to be the expected one, and words beside the lent ones have to stay. The typed plan of
 //! the crate `midvokt` is turned into the Rust's own and compared with it as well, and so are
-//! its whole works, the defaults and methods of its kernels, and its complex numbers.
+//! its whole works, the defaults and methods of its kernels, and its complex numbers. Then each
+//! program is stored, where every byte of the file counts too, and each file is loaded again.
 //!
 //! Programs: the stored ones, all with up to two records over small widths, those with
 //! several faults at once, and random ones. `differential [--spoil N] [SEED [COUNT]]`.
@@ -15,11 +16,13 @@
 mod compare;
 mod complex;
 mod dropin;
+mod files;
 mod inputs;
 mod kernels;
 mod memory;
 mod results;
 mod tally;
+mod wanted;
 
 use std::process::ExitCode;
 use std::sync::atomic::{AtomicU64, Ordering};

@@ -6,8 +6,10 @@ use midvokt_reference::whole;
 
 use crate::results::Results;
 
-/// Refusals have numbers up to this one.
+/// Planning's refusals have numbers up to this one.
 const LAST_REFUSAL: usize = 20;
+/// 02's number for a file or an output that is too short.
+pub const TOO_SHORT: u64 = 23;
 
 /// What plans have reached, each with the number of plans that did.
 const REACHED: [&str; 12] = [
@@ -32,6 +34,33 @@ const MARKS: [&str; 3] = [
     "with whole works and a quotient",
 ];
 
+/// Calls that store or load, by what they have to return.
+#[derive(Default)]
+pub struct Stored {
+    done: u64,
+    /// Refused because something lent is too short.
+    short: u64,
+    refused: u64,
+}
+
+impl Stored {
+    /// Counts a call that has to return this number.
+    pub fn count(&mut self, number: u64) {
+        match number {
+            0 => self.done += 1,
+            TOO_SHORT => self.short += 1,
+            _ => self.refused += 1,
+        }
+    }
+
+    /// Adds what another thread has counted.
+    fn add(&mut self, other: &Self) {
+        self.done += other.done;
+        self.short += other.short;
+        self.refused += other.refused;
+    }
+}
+
 #[derive(Default)]
 pub struct Tally {
     /// Place 0 counts plans, the others refusals.
@@ -43,6 +72,10 @@ pub struct Tally {
     pub incomparable: u64,
     pub calls: u64,
     pub typed: u64,
+    /// Calls that store.
+    pub stores: Stored,
+    /// Calls that load.
+    pub loads: Stored,
     /// The defaults of the types, which are the same for all programs.
     pub defaults: Results,
     /// Results of the kernels' methods.
@@ -129,6 +162,8 @@ impl Tally {
         self.incomparable += other.incomparable;
         self.calls += other.calls;
         self.typed += other.typed;
+        self.stores.add(&other.stores);
+        self.loads.add(&other.loads);
         self.methods += other.methods;
         self.numbers += other.numbers;
         let before = self.differences + other.differences;
@@ -178,6 +213,14 @@ impl Tally {
         lines.push(format!(
             "defaults compared {}, kernel methods compared {}, complex results compared {}",
             self.defaults.count, self.methods, self.numbers
+        ));
+        lines.push(format!(
+            "stored files compared {}, refused 23 for a short file: {}, refused as planning is: {}",
+            self.stores.done, self.stores.short, self.stores.refused
+        ));
+        lines.push(format!(
+            "loaded files compared {}, refused 23 for a short output: {}",
+            self.loads.done, self.loads.short
         ));
         if !self.missing().is_empty() {
             lines.push(format!("never refused: {}", self.missing().join(", ")));
