@@ -24,7 +24,8 @@
 //!
 //! With `--fill` each program is printed again, those words replaced by Rust's own.
 //! With `random SEED COUNT` nothing is read, and so many random programs are printed.
-//! With `vectors` nothing is read, and the fixed vectors are written as bytes.
+//! With `vectors` nothing is read, and the fixed vectors are written as bytes; with `files` the
+//! list of the files in which their plans are stored is printed.
 //!
 //! Exit status: 0, or 2 for a malformed line or option, or 3 for anything that was not
 //! foreseen, which never becomes an answer.
@@ -72,6 +73,7 @@ enum Task {
     Fill,
     Random { seed: u64, count: u64 },
     Vectors,
+    Files,
 }
 
 /// The task that the options name.
@@ -88,8 +90,9 @@ fn task(options: &[String]) -> Result<Task, Trouble> {
             count: number(count)?,
         }),
         ["vectors"] => Ok(Task::Vectors),
+        ["files"] => Ok(Task::Files),
         _ => Err(Trouble::malformed(format!(
-            "{options:?}: the options are --fill, random SEED COUNT, and vectors"
+            "{options:?}: the options are --fill, random SEED COUNT, vectors, and files"
         ))),
     }
 }
@@ -136,6 +139,10 @@ fn work(output: &mut impl Write) -> Result<(), Trouble> {
                 output.write_all(&word.to_le_bytes())?;
             }
             Ok(())
+        }
+        Task::Files => {
+            let list = vectors::files().map_err(Trouble::unforeseen)?;
+            Ok(output.write_all(list.as_bytes())?)
         }
     }
 }

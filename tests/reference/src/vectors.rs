@@ -10,6 +10,8 @@
 //!     the answer's number, 0 for a plan
 //!     the fourteen words of the result
 //!     seven times: the number of used words, then these; the buffer's other words are zero
+//!
+//! The list of their files has a line for each vector, which the comment on top of it describes.
 
 use crate::answer::answer;
 use crate::expected::Expected;
@@ -17,6 +19,7 @@ use crate::generator;
 use crate::input::{Program, RECORD_WORDS};
 use crate::refusals::least_lengths;
 use crate::stored;
+use crate::stored_file::{self, checksum};
 
 /// The most records of a random program that is taken.
 const MOST_RECORDS: usize = 24;
@@ -35,6 +38,18 @@ const OF_EACH_PLAN: [usize; 6] = [
 ];
 const REFUSALS: usize = 20;
 const SEED: u64 = 1;
+/// The longest file that stands whole in the list of files, in bytes.
+const MOST_SHOWN: usize = 400;
+/// The comment on top of the list of files.
+const LIST_HEAD: &str = "\
+# The files of the fixed vectors in crates/replay/stdin, which hold the published Rust's answers;
+# tests/vectors/make writes this list. A line for each vector, in their order: 'refused' and
+# planning's number, or 'plan', the file's length in bytes and its checksum (FNV-1a, 64 bits), and
+# of a short file all bytes, in words of eight.
+";
+
+/// A program with everything that a call has to leave behind.
+type Vector = (Program, Expected);
 
 /// One vector's words.
 fn words_of(program: &Program, expected: &Expected) -> Vec<u64> {
@@ -75,7 +90,7 @@ fn place(expected: &Expected) -> usize {
 }
 
 /// Random programs with their answers, until all that is wanted is there.
-fn random_vectors() -> Result<Vec<Vec<u64>>, String> {
+fn random_vectors() -> Result<Vec<Vector>, String> {
     let mut wanted = wanted();
     let mut vectors = Vec::new();
     for index in 0.. {
@@ -89,22 +104,52 @@ fn random_vectors() -> Result<Vec<Vec<u64>>, String> {
         let place = place(&expected);
         if is_short(&program, &expected) && wanted[place] > 0 {
             wanted[place] -= 1;
-            vectors.push(words_of(&program, &expected));
+            vectors.push((program, expected));
         }
     }
     Ok(vectors)
 }
 
-/// The whole list: 01's circuits and the further ones, then random programs.
-pub fn words() -> Result<Vec<u64>, String> {
+/// All vectors: 01's circuits and the further ones, then random programs.
+fn all() -> Result<Vec<Vector>, String> {
     let mut vectors = Vec::new();
     for program in stored::circuits()? {
         match Expected::of(&answer(&program)?)? {
-            Some(expected) => vectors.push(words_of(&program, &expected)),
+            Some(expected) => vectors.push((program, expected)),
             None => return Err("a circuit is incomparable".to_owned()),
         }
     }
     vectors.extend(random_vectors()?);
-    let count = vectors.len() as u64;
-    Ok(std::iter::once(count).chain(vectors.concat()).collect())
+    Ok(vectors)
+}
+
+/// The whole list of words.
+pub fn words() -> Result<Vec<u64>, String> {
+    let vectors = all()?;
+    let words = vectors
+        .iter()
+        .flat_map(|(program, expected)| words_of(program, expected));
+    Ok(std::iter::once(vectors.len() as u64).chain(words).collect())
+}
+
+/// The line of a vector in the list of files.
+fn file_line(expected: &Expected) -> String {
+    let Some(bytes) = stored_file::of(expected) else {
+        return format!("refused {}\n", expected.number);
+    };
+    let mut line = format!("plan {} {:016x}", bytes.len(), checksum(&bytes));
+    if bytes.len() <= MOST_SHOWN {
+        for word in bytes.chunks(8) {
+            line.push(' ');
+            line.extend(word.iter().map(|byte| format!("{byte:02x}")));
+        }
+    }
+    line + "\n"
+}
+
+/// The list of the vectors' files.
+pub fn files() -> Result<String, String> {
+    let vectors = all()?;
+    let lines = vectors.iter().map(|(_, expected)| file_line(expected));
+    Ok(LIST_HEAD.to_owned() + &lines.collect::<String>())
 }
