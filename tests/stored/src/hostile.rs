@@ -415,8 +415,8 @@ fn outputs(right: &Draft) -> Vec<Case> {
     cases
 }
 
-/// Words that no plan has come back as they are: 0.
-fn senseless(right: &Draft) -> Vec<Case> {
+/// Scalar fields that no plan has come back as they are: 0.
+fn senseless_scalars(right: &Draft) -> Vec<Case> {
     let scalars = [
         (0, 7),
         (0, u64::MAX),
@@ -430,38 +430,33 @@ fn senseless(right: &Draft) -> Vec<Case> {
         (6, u64::MAX),
         (7, 0),
     ];
-    let mut cases = Vec::new();
-    for (field, word) in scalars {
+    let case = |(field, word)| {
         let mut draft = right.clone();
         *draft.scalar(field) = word;
-        cases.push(Case::new(format!("scalar {field} is {word:#x}"), &draft, 0));
-    }
+        Case::new(format!("scalar {field} is {word:#x}"), &draft, 0)
+    };
+    scalars.map(case).into()
+}
+
+/// Rows that no plan has come back as they are: 0.
+fn senseless_rows(right: &Draft) -> Vec<Case> {
+    let scalars = right.start(SCALARS) as usize;
+    let mut cases = Vec::new();
     for word in [u64::MAX, 0, 0x7ff0_0000_0000_0001, 0x7ff8_1234_5678_9abc] {
         let mut draft = right.clone();
-        let scalars = right.start(SCALARS) as usize;
         draft.body[..scalars].fill(word);
         cases.push(Case::new(format!("all rows are {word:#x}"), &draft, 0));
-        let mut draft = right.clone();
         draft.body.fill(word);
         *draft.scalar(COMPONENT_COUNT) = right.count(2);
-        cases.push(Case::new(
-            format!("all but the trailer is {word:#x}"),
-            &draft,
-            0,
-        ));
+        let what = format!("all but the trailer is {word:#x}");
+        cases.push(Case::new(what, &draft, 0));
     }
     let mut draft = right.clone();
-    for (place, word) in draft.body[..right.start(SCALARS) as usize]
-        .iter_mut()
-        .enumerate()
-    {
+    for (place, word) in draft.body[..scalars].iter_mut().enumerate() {
         *word = 0x7ff0_0000_0000_0001 + 0x0123_4567_89ab * place as u64;
     }
-    cases.push(Case::new(
-        "each row's word is a pattern of its own",
-        &draft,
-        0,
-    ));
+    let what = "each row's word is a pattern of its own";
+    cases.push(Case::new(what, &draft, 0));
     cases
 }
 
@@ -505,7 +500,8 @@ fn cases_of(base: &Base) -> Vec<Case> {
         component_counts,
         two_faults,
         outputs,
-        senseless,
+        senseless_scalars,
+        senseless_rows,
     ] {
         cases.extend(group(&right));
     }

@@ -22,6 +22,19 @@ const REFUSED_FILES: [usize; 6] = [0, 1, 127, 128, 192, 1000];
 /// The lengths of the lent buffers and what differs.
 type Found = Option<([u64; 7], String)>;
 
+/// Outputs without a used word.
+static NOTHING: [Vec<u64>; 7] = [const { Vec::new() }; 7];
+
+/// What a call leaves for which something lent is too short, with so many outputs.
+fn too_short(outputs: usize) -> Wanted<'static> {
+    Wanted {
+        number: TOO_SHORT,
+        result: &[],
+        outputs: &NOTHING[..outputs],
+        file: &[],
+    }
+}
+
 /// The length of a result: mostly the whole one, sometimes a shorter or longer one.
 fn result_length(comparison: &mut Comparison, whole: usize) -> usize {
     if comparison.random.chance(80) {
@@ -80,12 +93,7 @@ fn store_plan(
         outputs: &expected.outputs,
         file,
     };
-    let short = Wanted {
-        number: TOO_SHORT,
-        result: &[],
-        outputs: &[const { Vec::new() }; 7],
-        file: &[],
-    };
+    let short = too_short(NOTHING.len());
     let more = comparison.random.pick(&[1, 8, 9, 700]);
     let longer = match program.lengths {
         Some(_) => buffers,
@@ -159,12 +167,7 @@ fn load_plan(comparison: &mut Comparison, expected: &Expected, file: &[u8]) -> O
         outputs,
         file: &[],
     };
-    let short = Wanted {
-        number: TOO_SHORT,
-        result: &[],
-        outputs: &[const { Vec::new() }; STORED_OUTPUTS],
-        file: &[],
-    };
+    let short = too_short(STORED_OUTPUTS);
     let longer = lengths.map(|length| length + comparison.random.between(0, 40) as usize);
     let found = load(comparison, file, lengths, &whole);
     let found = found.or_else(|| load(comparison, file, longer, &whole));

@@ -192,6 +192,26 @@ impl Tally {
         self.all_differences() == 0 && self.missing().is_empty()
     }
 
+    /// How much was compared.
+    fn compared(&self) -> [String; 4] {
+        let Self { stores, loads, .. } = self;
+        [
+            format!("calls compared {}, typed calls {}", self.calls, self.typed),
+            format!(
+                "defaults compared {}, kernel methods compared {}, complex results compared {}",
+                self.defaults.count, self.methods, self.numbers
+            ),
+            format!(
+                "stored files compared {}, refused 23 for a short file: {}, refused as planning is: {}",
+                stores.done, stores.short, stores.refused
+            ),
+            format!(
+                "loaded files compared {}, refused 23 for a short output: {}",
+                loads.done, loads.short
+            ),
+        ]
+    }
+
     /// The report.
     pub fn text(&self) -> String {
         let mut lines = vec![
@@ -206,22 +226,7 @@ impl Tally {
         lines.extend(marks.map(|(name, count)| format!("plans {name}: {count}")));
         let reached = REACHED.iter().zip(self.reached);
         lines.extend(reached.map(|(name, count)| format!("plans with {name}: {count}")));
-        lines.push(format!(
-            "calls compared {}, typed calls {}",
-            self.calls, self.typed
-        ));
-        lines.push(format!(
-            "defaults compared {}, kernel methods compared {}, complex results compared {}",
-            self.defaults.count, self.methods, self.numbers
-        ));
-        lines.push(format!(
-            "stored files compared {}, refused 23 for a short file: {}, refused as planning is: {}",
-            self.stores.done, self.stores.short, self.stores.refused
-        ));
-        lines.push(format!(
-            "loaded files compared {}, refused 23 for a short output: {}",
-            self.loads.done, self.loads.short
-        ));
+        lines.extend(self.compared());
         if !self.missing().is_empty() {
             lines.push(format!("never refused: {}", self.missing().join(", ")));
         }
