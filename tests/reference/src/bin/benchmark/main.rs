@@ -6,15 +6,18 @@
 //! programs in blocks, and is in it for check circuits, which are timed without it as well.
 //! Each call is timed by itself, and the clock's own time is taken off. A run goes over the
 //! programs of a mix until it has lasted long enough; runs of both alternate, and each pair
-//! gives a ratio. `benchmark [RUNS]` prints markdown.
+//! gives a ratio. For the mixes of the most records, loading a stored plan is timed beside
+//! planning it and storing it. `benchmark [RUNS]` prints markdown.
 //!
 //! A ratio above the bound is named in the last lines and is no failure: times depend on what
 //! else the machine does.
 //!
-//! Exit status: 0, or 1 where an answer is not the Rust's, or 2 for a malformed option.
+//! Exit status: 0, or 1 where an answer is not the Rust's or a stored plan does not load again,
+//! or 2 for a malformed option.
 
 mod mixes;
 mod stack;
+mod stored;
 mod tables;
 mod timing;
 
@@ -59,7 +62,7 @@ fn run(runs: usize) -> Result<(), String> {
         "{}",
         stack::plan_on_small_stack(entries.iter().map(|entry| &entry.mix))?
     );
-    Ok(())
+    stored::print(&entries, &clock, runs)
 }
 
 fn main() -> ExitCode {

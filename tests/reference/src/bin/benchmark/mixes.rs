@@ -107,13 +107,24 @@ impl Room {
     /// The library's call on these buffers.
     #[inline]
     pub fn plan(&mut self, program: &Prepared) -> u64 {
-        let mut buffers = Buffers::from(self.words.each_mut().map(Vec::as_mut_slice));
-        plan_words(
-            &program.head,
-            &program.words,
-            &mut buffers,
-            &mut self.result,
-        )
+        let (mut buffers, result) = self.lend();
+        plan_words(&program.head, &program.words, &mut buffers, result)
+    }
+
+    /// The buffers and the result, to write.
+    pub fn lend(&mut self) -> (Buffers<'_>, &mut [u64]) {
+        let buffers = Buffers::from(self.words.each_mut().map(Vec::as_mut_slice));
+        (buffers, &mut self.result)
+    }
+
+    /// The seven buffers as they stand.
+    pub fn words(&self) -> &[Vec<u64>; 7] {
+        &self.words
+    }
+
+    /// The result as it stands.
+    pub fn result(&self) -> &[u64] {
+        &self.result
     }
 
     /// Whether the words are the expected ones with zeros behind them.
@@ -220,12 +231,17 @@ impl Mix {
         }
     }
 
-    /// The mix in words.
-    pub fn name(&self) -> String {
-        let programs = match self.sort {
+    /// The sort of the programs in words.
+    pub fn programs_name(&self) -> &'static str {
+        match self.sort {
             Steady(_) => "programs in blocks",
             Check(_) => "check circuits",
-        };
+        }
+    }
+
+    /// The mix in words.
+    pub fn name(&self) -> String {
+        let programs = self.programs_name();
         let (records, width, sort) = (self.records, self.width_name(), self.sort_name());
         format!("{programs}, {records} records, {width}, {sort}")
     }

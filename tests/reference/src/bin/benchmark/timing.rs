@@ -49,7 +49,7 @@ impl Clock {
     }
 
     /// The time of one call.
-    fn time<T>(&self, call: impl FnOnce() -> T) -> (T, Duration) {
+    pub fn time<T>(&self, call: impl FnOnce() -> T) -> (T, Duration) {
         let start = Instant::now();
         let answer = call();
         let elapsed = start.elapsed();
@@ -92,19 +92,19 @@ fn theirs(mix: &Mix, clock: &Clock, freeing: Freeing) -> Duration {
 }
 
 /// Nanoseconds a plan over so many passes.
-fn run(passes: usize, programs: usize, mut pass: impl FnMut() -> Duration) -> f64 {
+pub fn run(passes: usize, programs: usize, mut pass: impl FnMut() -> Duration) -> f64 {
     let total: Duration = (0..passes).map(|_| pass()).sum();
     total.as_nanos() as f64 / (passes * programs) as f64
 }
 
 /// How many passes make a run long enough.
-fn passes_for(pass: Duration, programs: usize) -> usize {
+pub fn passes_for(pass: Duration, programs: usize) -> usize {
     let by_time = LEAST_RUN.as_nanos() / pass.as_nanos().max(1) + 1;
     (by_time as usize).max(FEWEST_CALLS.div_ceil(programs))
 }
 
 /// The middle one of an odd number of values, or the upper of the two middle ones.
-fn median(values: impl Iterator<Item = f64>) -> f64 {
+pub fn median(values: impl Iterator<Item = f64>) -> f64 {
     let mut sorted: Vec<f64> = values.collect();
     sorted.sort_by(f64::total_cmp);
     sorted[sorted.len() / 2]
