@@ -10,21 +10,21 @@ const GUARD: usize = 8;
 
 /// What memory is made of.
 trait Cell: Copy + Default + PartialEq {
-    /// Noise from a random word, never zero.
-    fn noise(word: u64) -> Self;
+    /// Noise at a place, from a random word; never zero.
+    fn noise(word: u64, place: usize) -> Self;
 }
 
 impl Cell for u64 {
-    /// The word itself, but for its last bit.
-    fn noise(word: u64) -> Self {
-        word | 1
+    /// Odd words that go up by two.
+    fn noise(word: u64, place: usize) -> Self {
+        word.wrapping_add(2 * place as u64) | 1
     }
 }
 
 impl Cell for u8 {
-    /// The word's first byte, but for its last bit.
-    fn noise(word: u64) -> Self {
-        (word >> 56) as u8 | 1
+    /// Odd bytes that go up by two.
+    fn noise(word: u64, place: usize) -> Self {
+        (word as u8).wrapping_add((2 * place) as u8) | 1
     }
 }
 
@@ -39,7 +39,7 @@ struct Guarded<T> {
 impl<T: Cell> Guarded<T> {
     /// The noise at a place, which is never zero.
     fn noise_at(&self, place: usize) -> T {
-        T::noise(self.noise.wrapping_mul(place as u64 + 1))
+        T::noise(self.noise, place)
     }
 
     /// Noise in what is lent and in the guards.
@@ -49,9 +49,8 @@ impl<T: Cell> Guarded<T> {
         if self.words.len() < whole {
             self.words.resize(whole, T::default());
         }
-        for place in 0..whole {
-            self.words[place] = self.noise_at(place);
-        }
+        let places = self.words[..whole].iter_mut().enumerate();
+        places.for_each(|(place, word)| *word = T::noise(noise, place));
     }
 
     /// What is lent, to write.

@@ -22,6 +22,13 @@ fn difference<T: Copy + Default + PartialEq + LowerHex>(
     found: &[T],
     used: &[T],
 ) -> Option<String> {
+    let is_zero = |word: &T| *word == T::default();
+    if let Some((first, behind)) = found.split_at_checked(used.len())
+        && first == used
+        && behind.iter().all(is_zero)
+    {
+        return None;
+    }
     let wanted = used.iter().copied().chain(std::iter::repeat(T::default()));
     let place = found
         .iter()
