@@ -26,18 +26,33 @@ use hostile::Base;
 use trial::Trial;
 use vectors::{Listed, Vector};
 
-/// The vectors whose files are made hostile and damaged, with what they are.
-const BASES: [(usize, &str); 10] = [
-    (1, "an unread plan"),
-    (2, "a plan of one step"),
-    (24, "a plan without records"),
-    (7, "a rotation"),
-    (9, "a measurement"),
-    (3, "a rotation that joins"),
-    (4, "a rotation and a measurement"),
-    (28, "a promotion beside many components"),
-    (17, "a plan with all sections"),
-    (130, "a plan with many promotions"),
+/// Whether a plan with so many words of each of six outputs is wanted.
+type Wanted = fn([usize; 6]) -> bool;
+
+/// The plans whose files are made hostile and damaged: what they are, and how the first vector
+/// of the kind is known. Counts stand in the order steps, merges, sizes, rotations, promotions,
+/// measurements.
+const BASES: [(&str, Wanted); 10] = [
+    ("a plan without a row", |counts| counts == [0; 6]),
+    ("a plan of steps alone", |[steps, others @ ..]| {
+        steps > 0 && others == [0; 5]
+    }),
+    ("a plan without records", |[steps, _, sizes, ..]| {
+        steps == 0 && sizes > 0
+    }),
+    ("a rotation", |[.., r, p, m]| [r, p, m] == [21, 0, 0]),
+    ("two rotations", |[.., r, p, m]| [r, p, m] == [42, 0, 0]),
+    ("a measurement", |[.., r, p, m]| [r, p, m] == [0, 0, 19]),
+    ("a rotation and a measurement", |[.., r, p, m]| {
+        [r, p, m] == [21, 0, 19]
+    }),
+    ("a promotion", |[.., r, p, m]| [r, p, m] == [0, 1, 0]),
+    ("a plan with all sections", |counts| {
+        counts.iter().all(|&count| count > 0) && counts[0] <= 20
+    }),
+    ("a plan with many promotions", |[.., r, p, m]| {
+        r >= 42 && (10..20).contains(&p) && m >= 38
+    }),
 ];
 
 /// What the run is given.
@@ -72,22 +87,24 @@ fn options() -> Result<Options, String> {
     })
 }
 
-/// The plans whose files are damaged.
-fn bases(vectors: &[Vector]) -> Result<Vec<Base>, String> {
-    let base = |&(place, what): &(usize, &str)| match vectors.get(place) {
-        Some(vector) if vector.number == 0 => Ok(Base {
+/// The first plan of a kind.
+fn base(vectors: &[Vector], (what, is_wanted): &(&str, Wanted)) -> Result<Base, String> {
+    let mut plans = vectors.iter().enumerate();
+    let found = plans.find(|(_, vector)| vector.number == 0 && is_wanted(vector.counts()));
+    match found {
+        Some((place, vector)) => Ok(Base {
             name: format!("{what} (vector {place})"),
             sections: vector.sections(),
         }),
-        _ => Err(format!("vector {place} is no plan")),
-    };
-    BASES.iter().map(base).collect()
+        None => Err(format!("no vector is {what}")),
+    }
 }
 
 /// All tests, one after the other.
 fn run(options: &Options) -> Result<(), String> {
     let mut trial = Trial::new()?;
-    let bases = bases(&options.vectors)?;
+    let bases = BASES.iter().map(|kind| base(&options.vectors, kind));
+    let bases = bases.collect::<Result<Vec<Base>, String>>()?;
     println!(
         "{}",
         vectors::check(&mut trial, &options.vectors, &options.files)?

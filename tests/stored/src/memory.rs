@@ -30,10 +30,15 @@ const PAGES: usize = 8;
 /// Guard words on each side of an output.
 const GUARD: usize = 8;
 
-/// Where a file lies between the two pages that cannot be read.
+/// Bytes before a file in the middle, an odd number.
+const BEFORE_MIDDLE: usize = 4099;
+
+/// Where a file lies between the two pages that cannot be read. In the middle its first byte has
+/// an odd address.
 #[derive(Clone, Copy)]
 pub enum Place {
     Start,
+    Middle,
     End,
 }
 
@@ -42,12 +47,13 @@ impl Place {
     pub fn name(self) -> &'static str {
         match self {
             Self::Start => "start",
+            Self::Middle => "middle",
             Self::End => "end",
         }
     }
 }
 
-pub const PLACES: [Place; 2] = [Place::Start, Place::End];
+pub const PLACES: [Place; 3] = [Place::Start, Place::Middle, Place::End];
 
 /// Readable pages between two that are not.
 pub struct Pages {
@@ -84,12 +90,11 @@ impl Pages {
 
     /// Where so many bytes lie at a place.
     fn range(&self, length: usize, place: Place) -> Range<usize> {
-        assert!(
-            length <= self.length,
-            "a file of {length} bytes is too long"
-        );
+        let most = self.length - BEFORE_MIDDLE;
+        assert!(length <= most, "a file of {length} bytes is too long");
         match place {
             Place::Start => 0..length,
+            Place::Middle => BEFORE_MIDDLE..BEFORE_MIDDLE + length,
             Place::End => self.length - length..self.length,
         }
     }

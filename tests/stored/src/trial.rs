@@ -148,7 +148,7 @@ impl Trial {
         self.words_are(&wanted.outputs, &wanted.result)
     }
 
-    /// Loads a file into outputs of these lengths, from both ends of the pages, and compares all
+    /// Loads a file into outputs of these lengths, from each place in the pages, and compares all
     /// with the second reading. Gives the number, which has to be the known one where it is.
     pub fn load(
         &mut self,
@@ -197,7 +197,7 @@ impl Trial {
         Err("a byte beside the file is written".to_owned())
     }
 
-    /// Stores a program, the file at both ends of the pages.
+    /// Stores a program, the file at each place in the pages.
     pub fn store(
         &mut self,
         what: &str,

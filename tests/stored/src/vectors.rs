@@ -158,6 +158,11 @@ impl Vector {
         })
     }
 
+    /// How many words of each of the six stored outputs are used.
+    pub fn counts(&self) -> [usize; 6] {
+        std::array::from_fn(|place| self.outputs[place].len())
+    }
+
     /// The plan's file, held to what the list says of the Rust's.
     fn file(&self, listed: &Listed) -> Result<Vec<u8>, String> {
         let Listed::Plan {
@@ -206,7 +211,7 @@ impl Vector {
 
     /// Loads a plan's file into outputs that are just long enough, longer, and one too short.
     fn load_plan(&self, trial: &mut Trial, what: &str, file: &[u8]) -> Result<(), String> {
-        let counts: [usize; 6] = std::array::from_fn(|place| self.outputs[place].len());
+        let counts = self.counts();
         for result in [RESULT_WORDS, 0, 1, 9, 14, 16, 40] {
             trial.load(what, file, (counts, result), Some(0))?;
             let longer = counts.map(|count| count + 11);
