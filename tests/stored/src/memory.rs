@@ -7,7 +7,9 @@ use std::ptr::null_mut;
 use std::slice;
 
 extern "C" {
+    /// A figure of the system.
     fn sysconf(name: c_int) -> c_long;
+    /// New memory.
     fn mmap(
         address: *mut c_void,
         length: usize,
@@ -16,6 +18,7 @@ extern "C" {
         file: c_int,
         offset: c_long,
     ) -> *mut c_void;
+    /// Says what memory may be used for.
     fn mprotect(address: *mut c_void, length: usize, protection: c_int) -> c_int;
 }
 

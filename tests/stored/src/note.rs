@@ -4,8 +4,11 @@ use std::ffi::{c_int, c_void};
 use std::sync::atomic::{AtomicU8, AtomicUsize, Ordering::Relaxed};
 
 extern "C" {
+    /// Has a signal call a handler.
     fn signal(number: c_int, handler: extern "C" fn(c_int)) -> usize;
+    /// Writes bytes to an open file.
     fn write(file: c_int, bytes: *const c_void, length: usize) -> isize;
+    /// Ends the process at once.
     fn _exit(status: c_int) -> !;
 }
 
