@@ -70,8 +70,8 @@ fn single_words(right: &Draft) -> Vec<Case> {
     for word in 0..TRAILER {
         let old = right.trailer[word];
         let others = [old.wrapping_add(1), old.wrapping_sub(1), 0, u64::MAX];
-        let shifted = [old ^ (1 << 63), old ^ (1 << 32), old ^ (1 << 8)];
-        for new in others.into_iter().chain(shifted) {
+        let bits = [63, 62, 61, 32, 8].map(|bit| old ^ (1 << bit));
+        for new in others.into_iter().chain(bits) {
             let mut draft = right.clone();
             draft.trailer[word] = new;
             let number = match word {
@@ -127,8 +127,7 @@ fn wraps(right: &Draft) -> Vec<Case> {
     cases
 }
 
-/// Two sections of which only both together wrap, one that begins behind the file, and a last
-/// one that wraps to the trailer: 22.
+/// Two sections of which only both together wrap, and a last one that wraps to the trailer: 22.
 fn wraps_over_two(right: &Draft) -> Vec<Case> {
     let mut cases = Vec::new();
     let half = 1 << 63;
@@ -139,11 +138,6 @@ fn wraps_over_two(right: &Draft) -> Vec<Case> {
         let count = right.start(section + 2).wrapping_sub(start + half);
         draft.point(section + 1, start + half, count);
         let what = format!("{} end at 2^63 and the next ones wrap back", name(section));
-        cases.push(Case::new(what, &draft, 22));
-        let mut draft = right.clone();
-        draft.shift_behind(section, half);
-        draft.point(section, start, right.count(section) + half);
-        let what = format!("all behind {} is 2^63 words on", name(section));
         cases.push(Case::new(what, &draft, 22));
     }
     let mut draft = right.clone();
@@ -156,6 +150,23 @@ fn wraps_over_two(right: &Draft) -> Vec<Case> {
         &draft,
         22,
     ));
+    cases
+}
+
+/// A section that is longer, and all behind it farther on, by words whose bytes are a multiple of
+/// 2^64, or of 2^35: 22.
+fn far_sections(right: &Draft) -> Vec<Case> {
+    let mut cases = Vec::new();
+    for section in 0..SECTIONS {
+        for bit in [63, 62, 61, 32] {
+            let mut draft = right.clone();
+            let (start, count) = (right.start(section), right.count(section));
+            draft.shift_behind(section, 1 << bit);
+            draft.point(section, start, count + (1 << bit));
+            let what = format!("{} are 2^{bit} words longer", name(section));
+            cases.push(Case::new(what, &draft, 22));
+        }
+    }
     cases
 }
 
@@ -482,6 +493,7 @@ fn cases_of(base: &Base) -> Vec<Case> {
         single_words,
         versions_and_lengths,
         wraps,
+        far_sections,
         lengths_of_files,
         holes,
         overlaps,
