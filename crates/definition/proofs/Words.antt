@@ -30,21 +30,21 @@ use Rattle.definition.specs.Components.{localMask, allocatedFor}
 use Rattle.definition.specs.Walk.{Walk, joinOf, localAction, flagWord, bitsWord, pairWords, rowHead, rotationRow, measurementRow, start, noStep, ignoredStep, promotionStep, rotationStep, measurementStep}
 use Rattle.definition.specs.Plan.{Lengths, Plan, planned, unread, unreadPlan, planFrom, forDensePeak, planOf}
 use Rattle.definition.specs.Connectivity.{ActiveOrder, activeStart, activeStep}
-use Rattle.definition.specs.Laws.{Words, PlanWords}
+use Rattle.definition.specs.Laws.{Words, PlanWords, PlanCounts}
 use Rattle.definition.proofs.Counting.{member-at, place-below}
 use Rattle.definition.proofs.Steps.{cond-yes, Stepped, ignored, rotated, promoted, measured, recorded, detected, expected, branched, Run, done, more}
 use Rattle.definition.proofs.LocalBits.{local-below}
 use Rattle.definition.proofs.Invariant.{source-below}
 use Rattle.definition.proofs.Tracking.{Tracked, activeOf, tracked-here, target-below, start-tracked, step-tracked}
-use Rattle.definition.proofs.Growth.{concat-more, rowCount, run-grown, extends-length}
+use Rattle.definition.proofs.Growth.{concat-more, rowCount, run-grown, extends-length, length-concat, run-rotations, run-measurements, start-wide}
 use Rattle.definition.proofs.Accepted.{accepted}
-use Rattle.definition.proofs.Room.{Narrow, run-components, start-components, component-count, rows-most, merges-most, peak-below, passed-narrow, passed-promotions, or-false}
+use Rattle.definition.proofs.Room.{Narrow, longest-count, steps-count, run-components, start-components, component-count, rows-most, merges-most, peak-below, passed-narrow, passed-promotions, or-false}
 use Rattle.definition.proofs.Sizes.{reached-longest}
 
 -- ---- lists of words
 
 -- words behind words
-words-append : (xs ys : List ℕ) → Words xs → Words ys → Words (xs ++ ys)
+pub words-append : (xs ys : List ℕ) → Words xs → Words ys → Words (xs ++ ys)
 words-append [] ys p q = q
 words-append (x ∷ xs) ys p q = (p .0, words-append xs ys (p .1) q)
 
@@ -59,7 +59,7 @@ cond-word true a b p q = p
 cond-word false a b p q = q
 
 -- a flag's
-flag-word : (t : Bool) → flagWord t < 2 ^ 64
+pub flag-word : (t : Bool) → flagWord t < 2 ^ 64
 flag-word t = cond-word t 1 0 (omega arith) (omega arith)
 
 -- a power of two below 2 ^ 64
@@ -353,8 +353,8 @@ start-worded k = record { steps = tt; merges = tt; rotations = tt; promotions = 
 
 -- ---- plans
 
--- the walk that a plan is made from, be it read or not
-record Made (limit initial : ℕ) (p : Plan) : Type 0 where
+-- the walk that a plan is made from, be it read or not, over at most n instructions
+record Made (limit initial n : ℕ) (p : Plan) : Type 0 where
   start-size : ℕ
   instructions : List Instruction
   last : Walk
@@ -363,16 +363,17 @@ record Made (limit initial : ℕ) (p : Plan) : Type 0 where
   narrow : Narrow instructions
   floats : AllFloatsFit instructions
   short : length instructions ≤ 1024
+  within : length instructions ≤ n
   few : length (last .components) ≤ 512
   dense-word : densePeak < 2 ^ 64
   plan-is : p ≡ planFrom initial densePeak last
 
 -- a plan that read nothing is made from a walk over no records
-unread-made : (limit : ℕ) (h : Head) (ws : List ℕ) (l : Lengths) (p : Plan) → unread h ≡ true → planOf limit h ws l ≡ planned p → Made limit (h .«initial_k») p
+unread-made : (limit : ℕ) (h : Head) (ws : List ℕ) (l : Lengths) (p : Plan) → unread h ≡ true → planOf limit h ws l ≡ planned p → Made limit (h .«initial_k») (length ws / 8) p
 unfolding planOf unreadPlan
 unread-made limit h ws l p u = go (dimension limit (h .«max_k»)) refl
   where
-    go : (d : Option ℕ) → dimension limit (h .«max_k») ≡ d → forDensePeak limit h ws l d ≡ planned p → Made limit (h .«initial_k») p
+    go : (d : Option ℕ) → dimension limit (h .«max_k») ≡ d → forDensePeak limit h ws l d ≡ planned p → Made limit (h .«initial_k») (length ws / 8) p
     go none f e = let z : _≡_ {A = ℕ} 0 1 = cc in absurd (omega arith)
     go (some densePeak) f e =
         let g : planned (unreadPlan (h .«initial_k») densePeak) ≡ planned p = sym (cond-yes (unread h) _ _ u) ∙ e in
@@ -385,13 +386,14 @@ unread-made limit h ws l p u = go (dimension limit (h .«max_k»)) refl
           narrow = λ i k. absurd (omega arith);
           floats = λ i k. absurd (omega arith);
           short = omega arith;
+          within = omega arith;
           few = let c = start-components 0 in omega arith;
           dense-word = dimension-word limit (h .«max_k») densePeak f;
           plan-is = same;
         }
 
 -- every other from that over its records
-read-made : (limit : ℕ) (h : Head) (ws : List ℕ) (l : Lengths) (p : Plan) → unread h ≡ false → planOf limit h ws l ≡ planned p → Made limit (h .«initial_k») p
+read-made : (limit : ℕ) (h : Head) (ws : List ℕ) (l : Lengths) (p : Plan) → unread h ≡ false → planOf limit h ws l ≡ planned p → Made limit (h .«initial_k») (length ws / 8) p
 read-made limit h ws l p u e =
     let k = h .«initial_k» in
     let a = accepted limit h ws l p u e in
@@ -406,20 +408,21 @@ read-made limit h ws l p u e =
       narrow = passed-narrow k ws (a .passed);
       floats = instruction-floats ws;
       short = let n = instructions-length ws in omega arith;
+      within = let n = instructions-length ws in omega arith;
       few = omega arith;
       dense-word = dimension-word limit (h .«max_k») (a .densePeak) (a .dimension-given);
       plan-is = a .plan-is;
     }
 
 -- so is every plan
-plan-made : (limit : ℕ) (h : Head) (ws : List ℕ) (l : Lengths) (p : Plan) → planOf limit h ws l ≡ planned p → Made limit (h .«initial_k») p
+plan-made : (limit : ℕ) (h : Head) (ws : List ℕ) (l : Lengths) (p : Plan) → planOf limit h ws l ≡ planned p → Made limit (h .«initial_k») (length ws / 8) p
 plan-made limit h ws l p e = go (unread h) refl
   where
-    go : (t : Bool) → unread h ≡ t → Made limit (h .«initial_k») p
+    go : (t : Bool) → unread h ≡ t → Made limit (h .«initial_k») (length ws / 8) p
     go true u = unread-made limit h ws l p u e
     go false u = read-made limit h ws l p u e
 
-module _ {limit initial : ℕ} {p : Plan} (m : Made limit initial p) where
+module _ {limit initial n : ℕ} {p : Plan} (m : Made limit initial n p) where
   -- few records make few of everything
   made-few : Few (m .last)
   made-few = record {
@@ -452,6 +455,25 @@ module _ {limit initial : ℕ} {p : Plan} (m : Made limit initial p) where
         allocated = omega arith;
       }
 
+  -- its words in number
+  made-counts : PlanCounts n (planFrom initial (m .densePeak) (m .last))
+  unfolding planFrom
+  made-counts =
+      let k = m .start-size in
+      let steps = steps-count k (m .run) in
+      let merges = merges-most k (m .run) (m .narrow) (m .few) in
+      let sizes = longest-count k (m .run) in
+      let rotations = length-concat 21 (m .last .written .rotations) (run-rotations (m .run) (start-wide k 21 .0)) in
+      let measurements = length-concat 19 (m .last .written .measurements) (run-measurements (m .run) (start-wide k 19 .1)) in
+      let rows = rows-most k (m .run) in record {
+        steps = omega arith;
+        sizes = sizes;
+        rotations = omega arith;
+        measurements = omega arith;
+        most = omega (arith, m .within, m .few);
+        few = omega (arith, m .short, m .few);
+      }
+
   -- the works of its plan
   made-fits : FloatFits (planFrom initial (m .densePeak) (m .last) .denseWork) × FloatFits (planFrom initial (m .densePeak) (m .last) .componentWork)
   unfolding planFrom
@@ -467,3 +489,7 @@ pub works-fit : (limit : ℕ) (h : Head) (ws : List ℕ) (l : Lengths) (p : Plan
 works-fit limit h ws l p e =
     let m = plan-made limit h ws l p e in
     subst (λ (q : Plan). FloatFits (q .denseWork) × FloatFits (q .componentWork)) (sym (m .plan-is)) (made-fits m)
+
+-- rows and steps are whole, and there are few of each
+pub plan-counts : (limit : ℕ) (h : Head) (ws : List ℕ) (l : Lengths) (p : Plan) → planOf limit h ws l ≡ planned p → PlanCounts (length ws / 8) p
+plan-counts limit h ws l p e = let m = plan-made limit h ws l p e in subst (PlanCounts (length ws / 8)) (sym (m .plan-is)) (made-counts m)

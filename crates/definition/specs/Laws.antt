@@ -1,7 +1,7 @@
 -- Laws that hold of every state the walk reaches and of every plan: works are numbers or infinite, never negative; whole works are given exactly where
 -- the width never passes 38, and there the float works are these numbers; the states that the Rust guards against never occur; the outputs fit the
 -- lent buffers; and every word of a plan is below 2 ^ 64.
-use Prim.Native.Nat.{ℕ, _+_, _*_, _^_, _≤_, _<_}
+use Prim.Native.Nat.{ℕ, _+_, _*_, _%_, _^_, _≤_, _<_}
 use mathlib.Core.Path.{_≡_}
 use mathlib.Core.List.{List, [], _∷_}
 use mathlib.Core.Bool.{Bool}
@@ -101,3 +101,12 @@ pub record PlanWords (p : Plan) : Type 0 where
   pub densePeak : p .densePeak < 2 ^ 64
   pub peak : p .peak < 2 ^ 64
   pub allocated : p .allocated < 2 ^ 64
+
+-- 02, CR 2: what reading asks of the counts holds of every plan, steps and rows being whole; and so many words are stored at most, of n records and of any
+pub record PlanCounts (n : ℕ) (p : Plan) : Type 0 where
+  pub steps : length (p .steps) % 2 ≡ 0
+  pub sizes : length (p .sizes) ≡ p .componentCount
+  pub rotations : length (p .rotations) % 21 ≡ 0
+  pub measurements : length (p .measurements) % 19 ≡ 0
+  pub most : length (p .steps) + length (p .merges) + length (p .sizes) + length (p .rotations) + length (p .promotions) + length (p .measurements) ≤ 24 * n + 1023
+  pub few : length (p .steps) + length (p .merges) + length (p .sizes) + length (p .rotations) + length (p .promotions) + length (p .measurements) ≤ 24 * 1024 + 1023

@@ -18,7 +18,7 @@ number-back zero w h = omega arith
 number-back (suc n) w h = let rest = number-back n (w / 256) (omega arith) in omega arith
 
 -- word i of the words' bytes
-word-back : (ws : List ℕ) (i : ℕ) → Words ws → i < length ws → wordAt (wordBytes ws) i ≡ getD ws i 0
+pub word-back : (ws : List ℕ) (i : ℕ) → Words ws → i < length ws → wordAt (wordBytes ws) i ≡ getD ws i 0
 word-back [] i all h = absurd (omega arith)
 word-back (w ∷ ws) zero all h = ap numberOf (take-at (bytesOf 8 w) (wordBytes ws) 8 refl) ∙ number-back 8 w (all .0)
 word-back (w ∷ ws) (suc i) all h =

@@ -1,6 +1,6 @@
 -- What planning wrote is read back: outputs only grow and end in zeros, so the step, the row and the part of the merge list that a record wrote stand in the buffers
 -- where the readers look for them, and a row's words are read as its kernel.
-use mathlib.Core.Path.{_≡_, refl, sym, ap, _∙_, subst}
+use mathlib.Core.Path.{_≡_, refl, ap, _∙_, subst}
 use mathlib.Core.Bool.{false}
 use mathlib.Core.Option.{some, Option·map}
 use mathlib.Core.List.{List, [], _∷_, _++_}
@@ -9,14 +9,11 @@ use native.Mathlib.Omega.{arith}
 use lib.Dec.{eqb}
 use lib.ListN.{length, getD, take, drop, length-append}
 use lib.Seq.{drop-cons, length-take-le}
-use lib.Ieee.{binary64}
-use lib.Ieee.Bits.{ofBits-fits}
 use Rattle.kernels.specs.Active.{Answer, given, refused}
-use Rattle.records.specs.Record.{width, xMask, zMask, phase, pivot, kind, flag, recordAt, measurementOf, instructionsByKind, instructionOf, instructionsOf}
+use Rattle.records.specs.Record.{instructionsOf}
 use Rattle.records.specs.declared.Head.{Head}
 use Rattle.records.specs.declared.Instruction.{Instruction}
-use Rattle.records.specs.declared.Instruction.the-variants.{Rotation, Promotion, RecordMeasurement, RecordDetector, Measurement, Expectation, DormantBranch}
-use Rattle.records.proofs.Laws.{instructions-length, instruction-at}
+use Rattle.records.specs.declared.Instruction.the-variants.{DormantBranch}
 use Rattle.definition.specs.Lists.{concat, placeOf, removeAt}
 use Rattle.definition.specs.Components.{localMask}
 use Rattle.definition.specs.Walk.{Written, Walk, Join, joinOf, noStep, ignoredStep, promotionStep, rotationStep, measurementStep, start, step, finished, onward, walkFrom}
@@ -36,7 +33,8 @@ use Rattle.component_plan.proofs.Demand.{planned-pads}
 use Rattle.readers.specs.Reading.{partOf, rowAt, stepIn, rotationIn, measurementIn}
 use Rattle.readers.specs.Back.{StepIs, GivenBack}
 use Rattle.readers.proofs.Rows.{part-there, row-there}
-use Rattle.readers.proofs.ReadBack.{FloatFits, rotation-fits, rotation-back, measurement-fits, measurement-back}
+use Rattle.definition.proofs.Words.{FloatsFit, instruction-floats}
+use Rattle.readers.proofs.ReadBack.{rotation-fits, rotation-back, measurement-fits, measurement-back}
 
 -- ---- where words stand
 
@@ -65,37 +63,6 @@ rows-back n rows all row held wide size e f =
     row-back n (length rows) (concat rows) row held (length-concat n rows wide) size
     (extends-trans (concat rows ++ row) (concat all) held
     (concat (e .0), ap concat (e .1) ∙ concat-append (rows ++ (row ∷ [])) (e .0) ∙ ap (λ (l : List ℕ). l ++ concat (e .0)) (concat-more rows row)) f)
-
--- ---- the floats of a record
-
-abbrev FloatsFit : Instruction → Type 0
-FloatsFit (Rotation width x z phase angle sine cosine) = FloatFits angle × FloatFits sine × FloatFits cosine
-FloatsFit Promotion = Unit
-FloatsFit RecordMeasurement = Unit
-FloatsFit RecordDetector = Unit
-FloatsFit (Measurement width x z phase pivot) = Unit
-FloatsFit Expectation = Unit
-FloatsFit DormantBranch = Unit
-
-measurement-floats : (r : List ℕ) (f : ℕ) → FloatsFit (getD (Measurement (width r) (xMask r) (zMask r) (phase r) (pivot r) ∷ []) f Expectation)
-measurement-floats r zero = tt
-measurement-floats r (suc f) = tt
-
-record-floats : (r : List ℕ) (k : ℕ) → FloatsFit (getD (instructionsByKind r) k DormantBranch)
-unfolding measurementOf
-record-floats r zero = (ofBits-fits binary64 _, ofBits-fits binary64 _, ofBits-fits binary64 _)
-record-floats r (suc zero) = tt
-record-floats r (suc (suc zero)) = tt
-record-floats r (suc (suc (suc zero))) = tt
-record-floats r (suc (suc (suc (suc zero)))) = measurement-floats r (flag r)
-record-floats r (suc (suc (suc (suc (suc zero))))) = tt
-record-floats r (suc (suc (suc (suc (suc (suc k)))))) = tt
-
-instruction-floats : (ws : List ℕ) (i : ℕ) → i < length (instructionsOf ws) → FloatsFit (getD (instructionsOf ws) i DormantBranch)
-unfolding instructionOf
-instruction-floats ws i h =
-    let n = instructions-length ws in
-    subst FloatsFit (sym (instruction-at ws i DormantBranch (omega arith))) (record-floats (recordAt ws i) (kind (recordAt ws i)))
 
 -- ---- what an accepted step wrote
 

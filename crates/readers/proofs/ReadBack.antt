@@ -19,12 +19,10 @@ use Rattle.kernels.specs.declared.active.PrecomputedActivePauliRotationKernel.{
 use Rattle.kernels.specs.declared.active.PrecomputedActivePauliMeasurementKernel.{PrecomputedActivePauliMeasurementKernel}
 use Rattle.definition.specs.Walk.{flagWord, bitsWord, rowHead, rotationRow, measurementRow}
 use Rattle.definition.proofs.Steps.{given-same}
+use Rattle.definition.proofs.Words.{FloatFits}
 use Rattle.readers.specs.Reading.{flagIn, complexIn, actionIn, rotationIn, measurementIn}
 
 -- ---- floats that binary64 holds
-
-abbrev pub FloatFits : Float → Type 0
-FloatFits v = T (fits binary64 v)
 
 pub record ComplexFits (c : Complex64) : Type 0 where
   pub re : FloatFits (c .re)

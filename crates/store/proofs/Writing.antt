@@ -14,6 +14,7 @@ use Rattle.file_words.specs.Words.{wordBytes}
 use Rattle.file_words.proofs.Bytes.{length-bytes, bytes-append, length-patch, front-patch}
 use Rattle.stored_plan.specs.Stored.{Kept, sectionsOf, trailerOf, wordsOf, bytesOf}
 use Rattle.stored_plan.specs.Reading.{countsOf}
+use Rattle.stored_plan.proofs.Plans.{sections-length}
 use Rattle.store.specs.Storing.{wordsFor, trailerFor}
 
 -- the bytes of these words stand in front of word `at`, in a file of n bytes
@@ -55,15 +56,7 @@ rest-cleared {done} {at} {n} {file} after f e =
 
 -- sections and trailer have 24 words more than the six outputs
 sections-count : (k : Kept) → length (k .scalars) ≡ 8 → length (concat (sectionsOf k)) + 16 ≡ wordsFor (countsOf k)
-sections-count k e =
-    let a = length-append (k .measurements) (k .scalars ++ []) in
-    let s = length-append (k .scalars) [] in
-    let b = length-append (k .promotions) (k .measurements ++ (k .scalars ++ [])) in
-    let c = length-append (k .rotations) (k .promotions ++ (k .measurements ++ (k .scalars ++ []))) in
-    let d = length-append (k .sizes) (k .rotations ++ (k .promotions ++ (k .measurements ++ (k .scalars ++ [])))) in
-    let f = length-append (k .merges) (k .sizes ++ (k .rotations ++ (k .promotions ++ (k .measurements ++ (k .scalars ++ []))))) in
-    let g = length-append (k .steps) (k .merges ++ (k .sizes ++ (k .rotations ++ (k .promotions ++ (k .measurements ++ (k .scalars ++ [])))))) in
-    omega arith
+sections-count k e = let s = sections-length k in omega arith
 
 -- so has the file
 pub words-count : (k : Kept) → length (k .scalars) ≡ 8 → length (wordsOf k) ≡ wordsFor (countsOf k)

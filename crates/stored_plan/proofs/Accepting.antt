@@ -178,6 +178,7 @@ module _ (file : List ℕ) (lent : WordCounts) where
   pub record Accepted : Type 0 where
     pub read : readFile file lent ≡ restored (keptIn file)
     pub is-whole : Whole file
+    pub touching : places ≡ true
     pub is-placed : Placed file
     pub eight : trailerWord file 13 ≡ 8
     pub counts : countsRefused lent (keptIn file) ≡ false
@@ -195,6 +196,7 @@ module _ (file : List ℕ) (lent : WordCounts) where
           let long = length-words file (trailerWord file 12) (trailerWord file 13) in record {
             read = read-counts f g ∙ ap (λ (t : Bool). refuse t 23 (restored (keptIn file))) e;
             is-whole = whole file f;
+            touching = g;
             is-placed = placed file g;
             eight = sym long ∙ counts-eight (keptIn file) e;
             counts = e;

@@ -2,3 +2,5 @@ pub mod Flags
 pub mod Touching
 pub mod Sections
 pub mod Accepting
+pub mod RoundTrip
+pub mod Plans
