@@ -1,17 +1,14 @@
 -- The answer of storing, case by case. Where planning gave a plan, its counts are those of the definition's plan, so that the front of each buffer is that plan's
 -- output and the file of these words is its file.
 use mathlib.Core.Path.{_≡_, refl, sym, ap, _∙_, subst}
-use mathlib.Core.Bool.{Bool, true, false}
+use mathlib.Core.Bool.{Bool}
 use mathlib.Core.List.{List, []}
-use Prim.Native.Nat.{ℕ, _+_, _*_, _/_, _≤_, _<_}
+use Prim.Native.Nat.{ℕ, _*_, _/_, _≤_, _<_}
 use native.Mathlib.Omega.{arith}
-use lib.Dec.{ltb}
 use lib.ListN.{length, take}
 use borrow.Author.Tests.{lt-ltb, le-ltb}
 use Rattle.records.specs.declared.Head.{Head}
-use Rattle.definition.specs.Walk.{flagWord, bitsWord}
 use Rattle.definition.specs.Plan.{Plan, Result, planned, refusedAt, refuseAll, planOf, padded, heldAfter}
-use Rattle.definition.specs.Laws.{FitsIn}
 use Rattle.definition.proofs.Room.{plan-fits-in}
 use Rattle.outputs.specs.declared.WordCounts.{WordCounts}
 use Rattle.walk.specs.Walking.{Buffers, lengthsOf, SameLengths}

@@ -7,20 +7,19 @@ use native.Mathlib.Omega.{arith}
 use lib.Dec.{ltb}
 use lib.ListN.{length, take}
 use Rattle.records.specs.declared.Head.{Head}
-use Rattle.definition.specs.Plan.{Lengths, Plan, Result, planned, refusedAt, refuseAll, planOf, padded, heldAfter}
+use Rattle.definition.specs.Plan.{Plan, Result, planned, refusedAt, refuseAll, planOf, padded, heldAfter}
 use Rattle.walk.specs.Walking as Walking
 use Rattle.walk.specs.Walking.{Buffers}
 use Rattle.component_plan.proofs.Filled.{front-of-padded}
-use Rattle.stored_plan.specs.Stored.{Kept, keptOf, fileOf}
+use Rattle.stored_plan.specs.Stored.{keptOf, fileOf}
 use Rattle.stored_plan.specs.Reading.{Read, restored, trailerWord, readFile}
 use Rattle.stored_plan.specs.Loading.{Outputs, Loads, Restored, outcomeIn, lengthsOf}
-use Rattle.stored_plan.specs.Laws.{LongEnough}
 use Rattle.stored_plan.specs.declared.Loaded.{Loaded}
 use Rattle.stored_plan.proofs.Accepting.{accepted}
 use Rattle.stored_plan.proofs.Plans.{plan-restored, own-length}
 use Rattle.store.specs.declared.Stored.the-variants as S
 use Rattle.store.specs.Storing as Storing
-use Rattle.store.specs.Storing.{fitting, storeOf, Stores}
+use Rattle.store.specs.Storing.{fitting, Stores}
 use Rattle.store.specs.Restoring.{GivesBack, Written}
 
 -- an answer with a length is that of an accepted plan

@@ -9,7 +9,6 @@ use lib.ListN.{length, take, replicate, length-append}
 use Rattle.definition.specs.Lists.{concat}
 use Rattle.definition.specs.Plan.{padded}
 use Rattle.outputs.specs.Buffers.{patch}
-use Rattle.outputs.specs.declared.WordCounts.{WordCounts}
 use Rattle.file_words.specs.Words.{wordBytes}
 use Rattle.file_words.proofs.Bytes.{length-bytes, bytes-append, length-patch, front-patch}
 use Rattle.stored_plan.specs.Stored.{Kept, sectionsOf, trailerOf, wordsOf, bytesOf}

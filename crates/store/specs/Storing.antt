@@ -1,17 +1,17 @@
 -- What the contract of `store` says: its answer, the seven buffers and every byte of the file. Written from 02, CR 2.
-use Prim.Native.Nat.{ℕ, _+_, _*_, _≤_, _^_, _<_}
+use Prim.Native.Nat.{ℕ, _+_, _*_}
 use mathlib.Core.Path.{_≡_}
 use mathlib.Core.List.{List, [], _∷_}
 use lib.Dec.{ltb}
 use lib.ListN.{length}
 use Rattle.records.specs.declared.Head.{Head}
 use Rattle.definition.specs.Walk.{flagWord, bitsWord}
-use Rattle.definition.specs.Plan.{Lengths, Plan, Result, planned, refusedAt, refuseAll, planOf, heldAfter}
+use Rattle.definition.specs.Plan.{Lengths, Result, planned, refusedAt, refuseAll, planOf, heldAfter}
 use Rattle.outputs.specs.declared.WordCounts.{WordCounts}
 use Rattle.walk.specs.Walking.{Buffers, lengthsOf}
 use Rattle.lent.specs.Lent.{Held}
 use Rattle.component_plan.specs.declared.ActiveComponentPlan.{ActiveComponentPlan}
-use Rattle.stored_plan.specs.Stored.{Kept, fileOf}
+use Rattle.stored_plan.specs.Stored.{fileOf}
 use Rattle.store.specs.declared.Stored.{Stored}
 use Rattle.store.specs.declared.Stored.the-variants as S
 

@@ -2,19 +2,18 @@
 -- eight there. So the place where the code reads component_count is the third of them.
 use mathlib.Core.Path.{_≡_, refl, sym, ap, ap₂, _∙_}
 use mathlib.Core.Bool.{Bool, true, false, not, _||_}
-use mathlib.Core.List.{List, [], _∷_, map}
-use Prim.Native.Nat.{ℕ, suc, _+_, _-_, _*_, _/_, _%_, _≤_, _<_}
-use native.Mathlib.Nat.{sub-zero}
+use mathlib.Core.List.{List, map}
+use Prim.Native.Nat.{ℕ, suc, _+_, _-_, _*_, _%_, _≤_}
 use native.Mathlib.Omega.{arith}
 use lib.Dec.{eqb, ltb}
 use lib.ListN.{length, getD}
-use borrow.Author.Tests.{eqb-true, ltb-false, eq-eqb, ne-eqb, not-true, not-false}
+use borrow.Author.Tests.{eqb-true, ltb-false, eq-eqb, ne-eqb, not-false}
 use Rattle.definition.specs.Lists.{numbersFrom}
 use Rattle.outputs.specs.declared.WordCounts.{WordCounts}
 use Rattle.file_words.specs.Words.{wordAt, wordsAt}
 use Rattle.file_words.proofs.Bytes.{length-words}
 use Rattle.stored_plan.specs.Stored.{Kept}
-use Rattle.stored_plan.specs.Reading.{Read, restored, refused, refuse, trailerAt, trailerWord, fileRefused, sectionIn, keptIn, touch, placesRefused, countsOf, oddCounts, outputsShort, countsRefused, readFile}
+use Rattle.stored_plan.specs.Reading.{Read, restored, refused, refuse, trailerAt, trailerWord, fileRefused, keptIn, touch, placesRefused, countsOf, oddCounts, outputsShort, countsRefused, readFile}
 use Rattle.stored_plan.specs.Loading.{numberOf, countsAt, SectionFits}
 use Rattle.stored_plan.proofs.Touching.{touch-next}
 

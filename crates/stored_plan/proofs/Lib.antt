@@ -4,3 +4,4 @@ pub mod Sections
 pub mod Accepting
 pub mod RoundTrip
 pub mod Plans
+pub mod Cases

@@ -2,7 +2,7 @@
 -- plans with the same file are the same in all that is stored, the works as floats too, since binary64 holds them.
 use mathlib.Core.Path.{_≡_, refl, sym, ap, ap₂, _∙_}
 use mathlib.Core.Bool.{Bool, true, false, not, _||_}
-use mathlib.Core.List.{List, [], _∷_, _++_}
+use mathlib.Core.List.{List, [], _++_}
 use Prim.Native.Nat.{ℕ, _+_, _*_, _/_, _%_, _^_, _≤_, _<_}
 use native.Mathlib.Omega.{arith}
 use lib.Dec.{T, eqb, ltb}
@@ -14,7 +14,7 @@ use Rattle.records.specs.declared.Head.{Head}
 use Rattle.definition.specs.Lists.{concat}
 use Rattle.definition.specs.Walk.{flagWord, bitsWord}
 use Rattle.definition.specs.Plan.{Lengths, Plan, planned, planOf}
-use Rattle.definition.specs.Laws.{Words, PlanWords, PlanCounts}
+use Rattle.definition.specs.Laws.{Words}
 use Rattle.definition.proofs.Words.{words-append, flag-word, plan-words, works-fit, plan-counts}
 use Rattle.outputs.specs.declared.WordCounts.{WordCounts}
 use Rattle.file_words.proofs.Bytes.{length-bytes}

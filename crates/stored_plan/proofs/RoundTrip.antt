@@ -1,13 +1,13 @@
 -- Reading a written file gives back what was kept: its words come back from their bytes, so that the trailer that is read is the one that was written, and each
 -- section is read from where it was written. And a file that is read is the file of what it gives back: sections that touch from word 0 to the trailer leave
 -- no word of a file to choose.
-use mathlib.Core.Path.{_≡_, refl, sym, ap, ap₂, _∙_, subst}
+use mathlib.Core.Path.{_≡_, refl, sym, ap, ap₂, _∙_}
 use mathlib.Core.Bool.{Bool, true, false, not, _&&_, _||_}
 use mathlib.Core.List.{List, [], _∷_, _++_, map, append-assoc}
-use Prim.Native.Nat.{ℕ, zero, suc, _+_, _-_, _*_, _/_, _%_, _^_, _≤_, _<_}
+use Prim.Native.Nat.{ℕ, zero, suc, _+_, _-_, _*_, _%_, _≤_, _<_}
 use native.Mathlib.Nat.{zero-add, add-zero, add-suc, suc-add, sub-zero}
 use native.Mathlib.Omega.{arith}
-use lib.Dec.{eqb, ltb}
+use lib.Dec.{eqb}
 use lib.ListN.{length, getD, take, drop, length-append}
 use lib.Seq.{take-at, drop-at, take-all, drop-drop, getD-append-add}
 use borrow.Author.Tests.{eqb-true, eq-eqb, le-ltb}
@@ -19,10 +19,10 @@ use Rattle.file_words.specs.Laws.{Bytes}
 use Rattle.file_words.proofs.Bytes.{length-bytes, length-words, words-are}
 use Rattle.file_words.proofs.Back.{word-back, words-back, file-back}
 use Rattle.stored_plan.specs.Stored.{Kept, sectionsOf, pointersFrom, trailerOf, wordsOf, bytesOf}
-use Rattle.stored_plan.specs.Reading.{Read, restored, refused, refuse, trailerAt, trailerWord, fileRefused, keptIn, touch, placesRefused, countsRefused, readFile}
+use Rattle.stored_plan.specs.Reading.{restored, refuse, trailerAt, trailerWord, fileRefused, keptIn, touch, placesRefused, countsRefused, readFile}
 use Rattle.stored_plan.specs.Loading.{numberOf}
 use Rattle.stored_plan.proofs.Touching.{touch-next}
-use Rattle.stored_plan.proofs.Accepting.{Whole, trailer-fits, Accepted, accepted}
+use Rattle.stored_plan.proofs.Accepting.{trailer-fits, accepted}
 
 -- ---- sections by their starts and counts
 

@@ -1,6 +1,6 @@
 -- `file_words::half_of` meets its contract: the four bytes are read by their places.
 -- Assumes nothing.
-use mathlib.Core.Path.{_≡_, refl, sym, ap, _∙_}
+use mathlib.Core.Path.{ap}
 use native.Mathlib.Omega.{arith}
 use denote.Ref.{now}
 use Rattle.file_words.specs.Words.{numberOf}

@@ -1,7 +1,7 @@
 -- `file_words::put_words` meets its contract. The loop's invariant: the bytes of the first i words stand in the file from the place on, and all else is as it
 -- was. The measure is the number of words left.
 -- Assumes nothing.
-use mathlib.Core.Path.{_≡_, refl, sym, ap, _∙_}
+use mathlib.Core.Path.{_≡_, refl, ap, _∙_}
 use mathlib.Core.List.{List}
 use Prim.Native.Nat.{ℕ, _-_, _*_, _+_, _≤_}
 use native.Mathlib.Omega.{arith}

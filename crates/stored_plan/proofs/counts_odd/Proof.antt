@@ -1,8 +1,6 @@
 -- `counts_odd` meets its contract: each return has shown by the tests before it which of the four hold.
 use mathlib.Core.Path.{ap}
 use mathlib.Core.Bool.{not}
-use Prim.Native.Nat.{ℕ}
-use lib.Dec.{eqb}
 use borrow.Author.Tests.{eq-eqb, ne-eqb}
 use Rattle.stored_plan.proofs.Flags.{first-of, second-of, third-of, last-of}
 use Rattle.stored_plan.proofs.counts_odd.Statement.{statement}
