@@ -4,7 +4,7 @@
 use std::hint::black_box;
 use std::time::Duration;
 
-use midvokt_reference::calls::{load_words, store_words};
+use midvokt::{Sections, load_words, store_words};
 use midvokt_reference::refusals::least_lengths;
 
 use crate::mixes::{Mix, Prepared, Room};
@@ -73,7 +73,7 @@ impl<'a> Stored<'a> {
     /// The call that loads, into outputs as long as planning asks for.
     fn load(&mut self, file: &[u8]) -> u64 {
         let outputs = self.outputs.each_mut().map(Vec::as_mut_slice);
-        load_words(file, outputs, &mut self.result)
+        load_words(file, &mut Sections::from(outputs), &mut self.result)
     }
 
     /// Whether the outputs are those that storing has planned.

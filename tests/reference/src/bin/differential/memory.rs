@@ -1,8 +1,7 @@
 //! Memory for the lent buffers, the result and a file: noise, with guards on both sides of
 //! what is lent.
 
-use midvokt::{Buffers, Head, plan_words};
-use midvokt_reference::calls::{load_words, store_words};
+use midvokt::{Buffers, Head, Sections, load_words, plan_words, store_words};
 use midvokt_reference::generator::Numbers;
 
 /// Guard words or bytes on each side.
@@ -130,7 +129,7 @@ impl Memory {
         self.prepare(lent, noise);
         let [outputs @ .., _, result] = &mut self.parts;
         let outputs = outputs.each_mut().map(Guarded::lend);
-        load_words(file, outputs, result.lend())
+        load_words(file, &mut Sections::from(outputs), result.lend())
     }
 
     /// What a buffer holds after the call.
