@@ -4,7 +4,6 @@
 include!(concat!(env!("OUT_DIR"), "/modules.rs"));
 
 pub mod answer;
-#[cfg(feature = "library")]
 pub mod expected;
 pub mod generator;
 pub mod input;
