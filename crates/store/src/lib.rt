@@ -1,4 +1,4 @@
-// Storing a plan: head and records are planned into the seven outputs, and the plan's file is written behind them into lent
+// Storing a plan: head and records are planned into the seven outputs, and the plan's file is then written from them into lent
 // bytes. Nothing is allocated, and no copy of the file is made.
 ghost use mathlib.Core.Path.{_≡_};
 ghost use Prim.Native.Nat.{_+_, _*_, _≤_, _<_, _^_};
@@ -40,7 +40,7 @@ fn scalar_words(plan: ActiveComponentPlan) -> [u64; 8]
 }
 
 // How many words a file has.
-fn file_words(used: WordCounts) -> usize
+fn word_count(used: WordCounts) -> usize
     requires { ⌜ wordsFor used < 2 ^ 64 ⌝ }
     ensures { λ r. ⌜ r ≡ wordsFor used ⌝ }
 {
@@ -160,7 +160,7 @@ pub fn store(
         }
         Planned::Plan(plan) => {
             let used = plan.used;
-            let words = file_words(used);
+            let words = word_count(used);
             if file.len() / 8 < words {
                 clear_all(
                     steps,

@@ -61,8 +61,8 @@ clear-bytes-requires c κs = search needs
 enum-known-planned-2 : tie.Need-enum-known-planned-2
 enum-known-planned-2 c = search needs
 
-file-words-requires : tie.Need-file-words-requires
-file-words-requires c κs = let i = fits (c .before .before) in omega (arith, i, start-of (planned-of (c .before .before)))
+word-count-requires : tie.Need-word-count-requires
+word-count-requires c κs = let i = fits (c .before .before) in omega (arith, i, start-of (planned-of (c .before .before)))
 
 clear-all-requires : tie.Need-clear-all-requires
 clear-all-requires c κs = search needs
@@ -99,7 +99,7 @@ returns c =
     let w = c .before .before .before .before .before .before .before .before .before .before .before .before .before .before .before .before .before .before .before .before .before .before .before .before .before .before .before .before .before .before in
     let s = start-of (planned-of w) in
     let short = c .before .before .before .before .before .before .before .before .before .before .before .before .before .before .before .before .before .before .before .before .before .before .before .before .before .before .if1 .taken in
-    let words = c .before .before .before .before .before .before .before .before .before .before .before .before .before .before .before .before .before .before .before .before .before .before .before .before .before .before .before .file-words .ensures in
+    let words = c .before .before .before .before .before .before .before .before .before .before .before .before .before .before .before .before .before .before .before .before .before .before .before .before .before .before .before .word-count .ensures in
     stores-short 62 (s .args .head) (now (s .args .records)) (before-of s) (between-of (planned-of w)) (plan-of w) (answers w) (record { steps = c .before .before .before .before .before .before .before .before .before .before .before .before .before .before .before .before .before .before .clear-all .last .0; merges = c .before .before .before .before .before .before .before .before .before .before .before .before .before .before .before .before .before .before .clear-all .last .1 .0; sizes = c .before .before .before .before .before .before .before .before .before .before .before .before .before .before .before .before .before .before .clear-all .last .1 .1 .0; rotations = c .before .before .before .before .before .before .before .before .before .before .before .before .before .before .before .before .before .before .clear-all .last .1 .1 .1 .0; promotions = c .before .before .before .before .before .before .before .before .before .before .before .before .before .before .before .before .before .before .clear-all .last .1 .1 .1 .1 .0; measurements = c .before .before .before .before .before .before .before .before .before .before .before .before .before .before .before .before .before .before .clear-all .last .1 .1 .1 .1 .1 .0; groups = c .before .before .before .before .before .before .before .before .before .before .before .before .before .before .before .before .before .before .clear-all .last .1 .1 .1 .1 .1 .1 .0 }) (now (s .args .file)) (c .before .before .clear-bytes2 .last .0)
     (omega (arith, short, words)) (same (planned-of w)) (c .before .before .before .before .before .before .before .before .before .before .before .before .before .before .before .before .before .before .clear-all .ensures) (c .before .before .clear-bytes2 .ensures)
 
@@ -147,7 +147,7 @@ write-file-requires c κs =
     let u = plan-of w .used in
     let m = between-of (planned-of w) in
     let room = c .before .before .before .before .before .before .before .if1 .left in
-    let words = c .before .before .before .before .before .before .before .before .file-words .ensures in
+    let words = c .before .before .before .before .before .before .before .before .word-count .ensures in
     let steps = front (u .steps) (m .steps) (omega (arith, i .steps, k .steps)) in
     let merges = front (u .merges) (m .merges) (omega (arith, i .merges, k .merges)) in
     let sizes = front (u .sizes) (m .sizes) (omega (arith, i .sizes, k .sizes)) in
@@ -221,7 +221,7 @@ returns-3 c =
     let w = c .before .before .before .before .before .before .before .before .before .before .before .before .before .before in
     let s = start-of (planned-of w) in
     let room = c .before .before .before .before .before .before .before .before .before .before .if1 .left in
-    let words = c .before .before .before .before .before .before .before .before .before .before .before .file-words .ensures in
+    let words = c .before .before .before .before .before .before .before .before .before .before .before .word-count .ensures in
     subst (λ (n : ℕ). Stores 62 (s .args .head) (now (s .args .records)) (before-of s) (between-of (planned-of w)) (now (s .args .file)) (c .before .before .write-file .last .1 .1 .1 .1 .1 .1 .1 .0) (S.File (8 * n))) (sym words)
     (stores-file 62 (s .args .head) (now (s .args .records)) (before-of s) (between-of (planned-of w)) (plan-of w) (answers w) (now (s .args .file)) (c .before .before .write-file .last .1 .1 .1 .1 .1 .1 .1 .0)
     (omega (arith, room, words)) (c .before .before .write-file .ensures))
@@ -234,7 +234,7 @@ store-spec =
     enum-known-planned
     clear-bytes-requires
     enum-known-planned-2
-    file-words-requires
+    word-count-requires
     clear-all-requires
     clear-bytes-requires-2
     same-length
