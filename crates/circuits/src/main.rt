@@ -1,6 +1,6 @@
 // Plans the reference circuits of document 01 and prints the scalar fields of each plan, or its refusal.
-use component_plan::ActiveComponentPlan;
-use component_plan::Planned;
+use answer::ActiveComponentPlan;
+use answer::Planned;
 use component_plan::build_active_component_plan;
 use libc::STDOUT_FILENO;
 use records::Head;

@@ -18,10 +18,11 @@ use Rattle.definition.proofs.Padded.{Pads, connected-padded}
 use Rattle.definition.proofs.WholeWorks.{works-agree, too-wide-exactly}
 use Rattle.tally.specs.Tally.{worksOf}
 use Rattle.walk.specs.Walking.{Buffers, lengthsOf}
-use Rattle.component_plan.specs.declared.ActiveComponentPlan.{ActiveComponentPlan}
-use Rattle.component_plan.specs.declared.Planned.the-variants as P
+use Rattle.answer.specs.declared.ActiveComponentPlan.{ActiveComponentPlan}
+use Rattle.answer.specs.declared.Planned.the-variants as P
 use Rattle.lent.specs.Lent.{Held}
-use Rattle.component_plan.specs.Answer.{outcomeOf, outcomeIn, Answers}
+use Rattle.answer.specs.Outcome.{outcomeOf, outcomeIn}
+use Rattle.component_plan.specs.Answer.{Answers}
 use Rattle.component_plan.specs.Demand.{planIn}
 
 -- an answer that is a plan is the definition's plan: its fields, and its words followed by zeros

@@ -24,7 +24,7 @@ use Rattle.walk.specs.declared.Summary.{Summary}
 use Rattle.walk.specs.Walking.{Buffers, Begins, Ended, SameLengths}
 use Rattle.lent.specs.Lent.{Held, RestCleared, UsedFit, clearedFrom}
 use Rattle.outputs.specs.declared.WordCounts.{WordCounts}
-use Rattle.component_plan.specs.Answer.{usedIn}
+use Rattle.answer.specs.Outcome.{usedIn}
 
 -- one buffer of m words: ws stand in front, n of them, and what follows is zeroed
 pub cleared-is-padded : (m n : ℕ) (ws walked after : List ℕ) → length walked ≡ m → n ≡ length ws → Begins ws walked → after ≡ clearedFrom n walked

@@ -21,16 +21,17 @@ use Rattle.definition.specs.Walk.{Walk, Walked, finished, stopped}
 use Rattle.definition.specs.Plan.{Lengths, Plan, Result, planned, refusedAt, chosen, unread, unreadPlan, planFrom, wordsRefused, buffersRefused, refuseAll, afterPass, planRead, forDensePeak, planOf, heldAfter}
 use Rattle.definition.proofs.Steps.{cond-yes, cond-no}
 use Rattle.tally.specs.declared.WholeWorks.the-variants as Whole
-use Rattle.component_plan.specs.declared.ActiveComponentPlan.{ActiveComponentPlan}
-use Rattle.component_plan.specs.declared.Planned.{Planned}
-use Rattle.component_plan.specs.declared.Planned.the-variants as P
+use Rattle.answer.specs.declared.ActiveComponentPlan.{ActiveComponentPlan}
+use Rattle.answer.specs.declared.Planned.{Planned}
+use Rattle.answer.specs.declared.Planned.the-variants as P
 use Rattle.walk.specs.declared.Summary.{Summary}
 use Rattle.walk.specs.declared.Walked as Declared
 use Rattle.walk.specs.declared.Walked.the-variants as W
 use Rattle.walk.specs.Walking.{Buffers, lengthsOf, Ended, WalkEnds, SameLengths}
 use Rattle.lent.specs.Lent.{Held, lentNumber}
 use Rattle.outputs.specs.declared.WordCounts.{WordCounts}
-use Rattle.component_plan.specs.Answer.{accepted, turnedAway, outcomeOf, usedIn, outcomeIn, Answers, ReadAnswers}
+use Rattle.answer.specs.Outcome.{accepted, turnedAway, outcomeOf, usedIn, outcomeIn}
+use Rattle.component_plan.specs.Answer.{Answers, ReadAnswers}
 
 -- ---- refusals 2 to 4
 

@@ -2,7 +2,7 @@
 use Rattle.definition.specs.Plan.{Plan}
 use Rattle.tally.specs.Tally.{worksOf}
 use Rattle.walk.specs.Walking.{Buffers}
-use Rattle.component_plan.specs.declared.ActiveComponentPlan.{ActiveComponentPlan}
+use Rattle.answer.specs.declared.ActiveComponentPlan.{ActiveComponentPlan}
 
 -- the answer's eight scalar fields and whole works, and every word of the seven buffers, the zeros behind the used ones too
 abbrev pub planIn : ActiveComponentPlan → Buffers → Plan

@@ -9,7 +9,8 @@ use Rattle.definition.specs.WholeWorks.{wholeWords}
 use Rattle.definition.specs.Walk.{flagWord, bitsWord}
 use Rattle.definition.specs.Plan.{planOf}
 use Rattle.walk.specs.Walking.{Buffers, lengthsOf}
-use Rattle.component_plan.specs.Answer.{Outcome, accepted, turnedAway, outcomeIn, Held}
+use Rattle.lent.specs.Lent.{Held}
+use Rattle.answer.specs.Outcome.{Outcome, accepted, turnedAway, outcomeIn}
 
 -- 0 for a plan, else the refusal's number
 abbrev pub numberOf : Outcome → ℕ

@@ -6,14 +6,14 @@ ghost use mathlib.Core.Path.{_≡_};
 ghost use lib.ListN.{length, getD};
 ghost use Rattle.definition.specs.WholeWorks.{wholeWords};
 ghost use Rattle.tally.specs.Tally.{worksOf};
-ghost use Rattle.component_plan.specs.Answer.{outcomeOf};
+ghost use Rattle.answer.specs.Outcome.{outcomeOf};
 ghost use Rattle.midvokt.specs.Reply.{Replies, numberOf, wordsOf, laidOut};
-use component_plan::ActiveComponentPlan;
-use component_plan::Planned;
+use answer::ActiveComponentPlan;
+use answer::Planned;
 use component_plan::build_active_component_plan;
-use outputs::rows::flag_word;
-use outputs::rows::float_bits;
 use records::Head;
+use rows::flag_word;
+use rows::float_bits;
 use tally::WholeWorks;
 
 // 0 for a plan, and else the refusal's number.

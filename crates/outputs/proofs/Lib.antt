@@ -1,4 +1,3 @@
 pub mod Fill
-pub mod Words
 pub mod Groups
 pub mod Parts

@@ -1,6 +1,5 @@
-// What planning writes into the lent buffers: rows and steps, longest sizes, groups, and zeros.
+// What planning writes into the lent buffers beside rows and steps: longest sizes, groups, and zeros.
 pub mod buffers;
-pub mod rows;
 
 // So many words of each of the first six outputs.
 pub struct WordCounts {

@@ -27,8 +27,8 @@ use Rattle.definition.proofs.Accepted.{accepted}
 use Rattle.walk.specs.Walking.{Buffers, lengthsOf}
 use Rattle.component_plan.specs.Answer.{Answers}
 use Rattle.component_plan.specs.Demand.{planIn}
-use Rattle.component_plan.specs.declared.ActiveComponentPlan.{ActiveComponentPlan}
-use Rattle.component_plan.specs.declared.Planned.the-variants as P
+use Rattle.answer.specs.declared.ActiveComponentPlan.{ActiveComponentPlan}
+use Rattle.answer.specs.declared.Planned.the-variants as P
 use Rattle.component_plan.proofs.Demand.{planned-pads}
 use Rattle.readers.specs.Reading.{partOf, rowAt, stepIn, rotationIn, measurementIn}
 use Rattle.readers.specs.Back.{StepIs, GivenBack}

@@ -13,35 +13,21 @@ use Rattle.definition.proofs.Room.{plan-fits-in}
 use Rattle.outputs.specs.declared.WordCounts.{WordCounts}
 use Rattle.walk.specs.Walking.{Buffers, lengthsOf, SameLengths}
 use Rattle.lent.specs.Lent.{Held}
-use Rattle.component_plan.specs.declared.ActiveComponentPlan.{ActiveComponentPlan}
-use Rattle.component_plan.specs.declared.Planned.the-variants as P
-use Rattle.component_plan.specs.Answer as Answer
-use Rattle.component_plan.specs.Answer.{Answers, usedIn}
+use Rattle.answer.specs.declared.ActiveComponentPlan.{ActiveComponentPlan}
+use Rattle.answer.specs.declared.Planned.the-variants as P
+use Rattle.answer.specs.Outcome.{usedIn}
+use Rattle.component_plan.specs.Answer.{Answers}
 use Rattle.component_plan.proofs.Filled.{front-of-padded}
 use Rattle.component_plan.proofs.Refusals.{away, zeros-held}
 use Rattle.stored_plan.specs.Stored.{Kept, scalarsOf, keptOf, bytesOf, fileOf}
+use Rattle.plan_file.specs.Writing.{scalarsIn, wordsFor}
+use Rattle.plan_file.proofs.Writing.{bytes-count}
+use Rattle.plan_file.proofs.Fields.{found}
 use Rattle.store.specs.declared.Stored.the-variants as S
 use Rattle.store.specs.Storing as Storing
-use Rattle.store.specs.Storing.{fitting, storeOf, outcomeIn, Stores, scalarsIn, wordsFor}
-use Rattle.store.proofs.Writing.{bytes-count}
+use Rattle.store.specs.Storing.{fitting, storeOf, outcomeIn, Stores}
 
 -- ---- a plan that was answered
-
--- the definition's plan, with its scalar words and its counts
-found : (result : Result) (r : ActiveComponentPlan) → Answer.outcomeOf (P.Plan r) ≡ Answer.outcomeIn result
-    → (p : Plan) × (result ≡ planned p) × (scalarsIn r ≡ scalarsOf p) × (r .used ≡ usedIn p)
-found (planned p) r e =
-    let selected : r .selected ≡ p .selected = cc in
-    let initial : r .«initial_components» ≡ p .initialComponents = cc in
-    let count : r .«component_count» ≡ p .componentCount = cc in
-    let dense : r .«estimated_dense_work» ≡ p .denseWork = cc in
-    let component : r .«estimated_component_work» ≡ p .componentWork = cc in
-    let dense-peak : r .«dense_peak_dimension» ≡ p .densePeak = cc in
-    let peak : r .«component_peak_live_dimension» ≡ p .peak = cc in
-    let allocated : r .«component_allocated_dimension» ≡ p .allocated = cc in
-    let used : r .used ≡ usedIn p = cc in
-    (p, refl, rw (selected, initial, count, dense, component, dense-peak, peak, allocated), used)
-found (refusedAt number index) r e = let z : _≡_ {A = ℕ} 0 1 = cc in absurd (omega arith)
 
 -- the used words in front of each buffer, and the scalar words
 abbrev pub frontOf : ActiveComponentPlan → Buffers → Kept

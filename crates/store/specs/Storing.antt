@@ -1,16 +1,13 @@
 -- What the contract of `store` says: its answer, the seven buffers and every byte of the file. Written from 02, CR 2.
-use Prim.Native.Nat.{ℕ, _+_, _*_}
+use Prim.Native.Nat.{ℕ}
 use mathlib.Core.Path.{_≡_}
-use mathlib.Core.List.{List, [], _∷_}
+use mathlib.Core.List.{List}
 use lib.Dec.{ltb}
 use lib.ListN.{length}
 use Rattle.records.specs.declared.Head.{Head}
-use Rattle.definition.specs.Walk.{flagWord, bitsWord}
 use Rattle.definition.specs.Plan.{Lengths, Result, planned, refusedAt, refuseAll, planOf, heldAfter}
-use Rattle.outputs.specs.declared.WordCounts.{WordCounts}
 use Rattle.walk.specs.Walking.{Buffers, lengthsOf}
 use Rattle.lent.specs.Lent.{Held}
-use Rattle.component_plan.specs.declared.ActiveComponentPlan.{ActiveComponentPlan}
 use Rattle.stored_plan.specs.Stored.{fileOf}
 use Rattle.store.specs.declared.Stored.{Stored}
 use Rattle.store.specs.declared.Stored.the-variants as S
@@ -44,27 +41,3 @@ pub record Stores (limit : ℕ) (h : Head) (ws : List ℕ) (before after : Buffe
   pub answer : outcomeOf r ≡ outcomeIn (storeOf limit h ws (lengthsOf before) (length file))
   pub held : Held (storeOf limit h ws (lengthsOf before) (length file)) before after
   pub bytes : filed ≡ heldAfter (length file) fileOf (storeOf limit h ws (lengthsOf before) (length file))
-
--- ---- what the functions below `store` say
-
--- the eight scalar words of the planner's answer
-abbrev pub scalarsIn : ActiveComponentPlan → List ℕ
-scalarsIn p =
-    flagWord (p .selected) ∷ p .«initial_components» ∷ p .«component_count» ∷ bitsWord (p .«estimated_dense_work») ∷ bitsWord (p .«estimated_component_work»)
-    ∷ p .«dense_peak_dimension» ∷ p .«component_peak_live_dimension» ∷ p .«component_allocated_dimension» ∷ []
-
--- the words of a file whose sections have these counts
-abbrev pub wordsFor : WordCounts → ℕ
-wordsFor used = used .steps + used .merges + used .sizes + used .rotations + used .promotions + used .measurements + 24
-
--- starts and counts of the seven sections, the file's length in bytes, and the version
-abbrev pub trailerFor : WordCounts → List ℕ
-trailerFor used =
-    let merges = used .steps in
-    let sizes = merges + used .merges in
-    let rotations = sizes + used .sizes in
-    let promotions = rotations + used .rotations in
-    let measurements = promotions + used .promotions in
-    let scalars = measurements + used .measurements in
-    0 ∷ used .steps ∷ merges ∷ used .merges ∷ sizes ∷ used .sizes ∷ rotations ∷ used .rotations ∷ promotions ∷ used .promotions
-    ∷ measurements ∷ used .measurements ∷ scalars ∷ 8 ∷ 8 * (scalars + 24) ∷ 1 ∷ []

@@ -4,7 +4,7 @@ use mathlib.Core.Path.{ap, _∙_}
 use lib.ListN.{length}
 use denote.Ref.{now}
 use borrow.Author.Needs.{needs}
-use Rattle.component_plan.specs.Answer.{Outcome}
+use Rattle.answer.specs.Outcome.{Outcome}
 use Rattle.midvokt.specs.Reply.{numberOf, wordsOf, laidOut}
 use Rattle.midvokt.proofs.midvokt_plan.Statement.{statement}
 use Rattle.midvokt.proofs.midvokt_plan.Tie as tie

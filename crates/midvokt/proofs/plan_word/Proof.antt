@@ -7,9 +7,9 @@ use lib.ListN.{getD}
 use borrow.Author.Needs.{needs}
 use Rattle.definition.specs.WholeWorks.{wholeWords}
 use Rattle.tally.specs.Tally.{worksOf}
-use Rattle.component_plan.specs.Answer.{outcomeOf}
-use Rattle.component_plan.specs.declared.ActiveComponentPlan.{ActiveComponentPlan}
-use Rattle.component_plan.specs.declared.Planned.the-variants as P
+use Rattle.answer.specs.Outcome.{outcomeOf}
+use Rattle.answer.specs.declared.ActiveComponentPlan.{ActiveComponentPlan}
+use Rattle.answer.specs.declared.Planned.the-variants as P
 use Rattle.midvokt.specs.Reply.{wordsOf}
 use Rattle.midvokt.proofs.plan_word.Statement.{statement}
 use Rattle.midvokt.proofs.plan_word.Tie as tie

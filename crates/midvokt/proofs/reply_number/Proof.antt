@@ -1,8 +1,8 @@
 -- `reply_number` meets its contract: each arm gives the number of its case.
 -- Assumes nothing.
 use mathlib.Core.Path.{sym, ap}
-use Rattle.component_plan.specs.declared.Planned.{Planned}
-use Rattle.component_plan.specs.Answer.{outcomeOf}
+use Rattle.answer.specs.declared.Planned.{Planned}
+use Rattle.answer.specs.Outcome.{outcomeOf}
 use Rattle.midvokt.specs.Reply.{numberOf}
 use borrow.Author.Needs.{needs}
 use Rattle.midvokt.proofs.reply_number.Statement.{statement}

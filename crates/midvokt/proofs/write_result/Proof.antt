@@ -6,7 +6,7 @@ use native.Mathlib.Omega.{arith}
 use lib.ListN.{length, getD, set}
 use denote.Ref.{now}
 use Rattle.definition.proofs.Filled.{Filled, filled-none, filled-next, filled-all}
-use Rattle.component_plan.specs.Answer.{outcomeOf}
+use Rattle.answer.specs.Outcome.{outcomeOf}
 use Rattle.midvokt.specs.Reply.{wordsOf}
 use borrow.Author.Needs.{needs}
 use Rattle.midvokt.proofs.write_result.Statement.{statement}

@@ -7,9 +7,9 @@ use lib.ListN.{length, take}
 use lib.Seq.{length-take-le}
 use denote.Ref.{now}
 use Rattle.walk.specs.Walking.{Buffers, SameLengths}
-use Rattle.component_plan.specs.declared.ActiveComponentPlan.{ActiveComponentPlan}
-use Rattle.component_plan.specs.declared.Planned.{Planned}
-use Rattle.component_plan.specs.declared.Planned.the-variants as P
+use Rattle.answer.specs.declared.ActiveComponentPlan.{ActiveComponentPlan}
+use Rattle.answer.specs.declared.Planned.{Planned}
+use Rattle.answer.specs.declared.Planned.the-variants as P
 use Rattle.component_plan.specs.Answer.{Answers}
 use Rattle.store.specs.declared.Stored.the-variants as S
 use Rattle.store.specs.Storing.{Stores}

@@ -11,7 +11,7 @@ use Rattle.kernels.specs.Active.{measurement, measurementOf}
 use Rattle.kernels.specs.declared.active.ActivePauliAction.{ActivePauliAction}
 use Rattle.definition.specs.Walk.{measurementRow}
 use Rattle.outputs.specs.Buffers.{patch}
-use Rattle.outputs.specs.declared.rows.RowHead.{RowHead}
+use Rattle.rows.specs.declared.RowHead.{RowHead}
 use Rattle.turns.specs.Turns.{localActionOf, measurementAnswer}
 use Rattle.turns.proofs.Answers.{settled-given, settled-refused, tests-refused, tests-passed}
 use borrow.Author.Needs.{needs}

@@ -7,7 +7,7 @@ use Rattle.kernels.specs.Active.{rotation, rotationOf}
 use Rattle.kernels.specs.declared.active.ActivePauliAction.{ActivePauliAction}
 use Rattle.definition.specs.Walk.{rotationRow}
 use Rattle.outputs.specs.Buffers.{patch}
-use Rattle.outputs.specs.declared.rows.RowHead.{RowHead}
+use Rattle.rows.specs.declared.RowHead.{RowHead}
 use Rattle.turns.specs.Turns.{rotationAnswer}
 use Rattle.turns.proofs.Answers.{settled-given, settled-refused}
 use borrow.Author.Needs.{needs}
