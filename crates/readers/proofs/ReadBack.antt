@@ -6,7 +6,7 @@ use mathlib.Core.Option.{Option, some, none}
 use mathlib.Core.List.{List, _++_}
 use Prim.Native.Nat.{ℕ, zero, suc, _%_}
 use native.Mathlib.Omega.{arith}
-use lib.Dec.{T, eqb}
+use lib.Dec.{eqb}
 use lib.ListN.{drop}
 use lib.Ieee.{Float, binary64, fits, neg, ofBits}
 use lib.Ieee.Bits.{ofBits-toBits}

@@ -15,7 +15,6 @@ use Rattle.stored_plan.specs.Stored.{keptOf, fileOf}
 use Rattle.stored_plan.specs.Reading.{Read, restored, trailerWord, readFile}
 use Rattle.stored_plan.specs.Loading.{Outputs, Loads, Restored, outcomeIn, lengthsOf}
 use Rattle.stored_plan.specs.declared.Loaded.{Loaded}
-use Rattle.stored_plan.proofs.Accepting.{accepted}
 use Rattle.stored_plan.proofs.Plans.{plan-restored, own-length}
 use Rattle.store.specs.declared.Stored.the-variants as S
 use Rattle.store.specs.Storing as Storing

@@ -2,7 +2,7 @@
 use mathlib.Core.Path.{_≡_, refl}
 use mathlib.Core.List.{List, [], _∷_, _++_, map}
 use Prim.Native.Nat.{ℕ, _+_, _-_, _*_, _^_}
-use lib.ListN.{length, take, set}
+use lib.ListN.{take, set}
 use Rattle.definition.specs.Plan.{Result, planned, refusedAt, planOf}
 use Rattle.outputs.specs.declared.WordCounts.{WordCounts}
 use Rattle.file_words.specs.Words.{wordBytes}
