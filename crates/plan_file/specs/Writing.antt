@@ -1,4 +1,5 @@
--- What writing a file goes by: the scalar words of an answer, and a file's words and trailer by its counts alone. Written from 02, CR 2.
+-- What the functions that write a file say: the scalar words of an answer, and a file's words and trailer by its counts alone. The form itself is `Stored` of the crate
+-- `stored_plan`, and the proofs show these to be its words.
 use Prim.Native.Nat.{ℕ, _+_, _*_}
 use mathlib.Core.List.{List, [], _∷_}
 use Rattle.definition.specs.Walk.{flagWord, bitsWord}
