@@ -18,11 +18,11 @@ use Rattle.definition.specs.Components.{allocatedFor}
 use Rattle.definition.specs.Walk.{Walk, start}
 use Rattle.definition.specs.Plan.{Lengths, Plan, planned, unread, planFrom, planOf}
 use Rattle.definition.specs.Connectivity.{occurrences, Member, NoRepeats, Rearranged, greatest, ActiveOrder, activeStart, activeAfter, Linked, liveAt, moments, replayAfter, replayMembers, SameComponent, longestOf, JoinClaim, isPromotion, isMeasurement, Connected}
-use Rattle.definition.proofs.Steps.{Run, more, run-split}
+use Rattle.definition.proofs.Steps.{Stepped, Run, more, run-split}
 use Rattle.definition.proofs.Classes.{class-linked}
 use Rattle.definition.proofs.Live.{rearranged-length}
 use Rattle.definition.proofs.Invariant.{holds-start, listed-below}
-use Rattle.definition.proofs.Growth.{AllOf, grown-refl, run-grown, run-steps, run-rotations, run-measurements, start-wide}
+use Rattle.definition.proofs.Growth.{AllOf, Grown, grown-refl, run-grown, run-steps, run-rotations, run-measurements, start-wide}
 use Rattle.definition.proofs.Tracking.{Tracked, live-same, start-tracked, run-tracked, run-peak}
 use Rattle.definition.proofs.Replay.{ReplayIs, run-replay, start-replay}
 use Rattle.definition.proofs.Longest.{start-long}
@@ -39,30 +39,30 @@ module _ (limit k densePeak : ℕ) (is : List Instruction) (u : Walk) (run : Run
   abbrev plan : Plan
   plan = planFrom k densePeak u
 
-  rotations-wide : AllOf 21 (u .written .rotations)
+  pub rotations-wide : AllOf 21 (u .written .rotations)
   rotations-wide = run-rotations run (start-wide k 21 .0)
 
-  measurements-wide : AllOf 19 (u .written .measurements)
+  pub measurements-wide : AllOf 19 (u .written .measurements)
   measurements-wide = run-measurements run (start-wide k 19 .1)
 
-  abbrev Follows : ℕ → Walk → Type 0
+  abbrev pub Follows : ℕ → Walk → Type 0
   Follows m w = ReplayIs k densePeak u rotations-wide measurements-wide m w
 
-  start-steps : length (start k .written .steps) ≡ 2 * 0
+  pub start-steps : length (start k .written .steps) ≡ 2 * 0
   unfolding start
   start-steps = refl
 
   -- the walk after m records
-  record At (m : ℕ) : Type 0 where
-    state : Walk
-    front : Run limit (start k) (take m is) state
-    back : Run limit state (drop m is) u
-    tracked : Tracked state (activeAfter (activeStart k) (take m is))
-    follows : Follows m state
-    steps-same : length (state .written .steps) ≡ 2 * m
-    components-within : length (state .components) ≤ length (u .components)
+  pub record At (m : ℕ) : Type 0 where
+    pub state : Walk
+    pub front : Run limit (start k) (take m is) state
+    pub back : Run limit state (drop m is) u
+    pub tracked : Tracked state (activeAfter (activeStart k) (take m is))
+    pub follows : Follows m state
+    pub steps-same : length (state .written .steps) ≡ 2 * m
+    pub components-within : length (state .components) ≤ length (u .components)
 
-  cut : (m : ℕ) → m ≤ length is → At m
+  pub cut : (m : ℕ) → m ≤ length is → At m
   cut m h =
       let parts = run-split m run in
       let taken : length (take m is) ≡ m = let e = length-take m is in omega arith in
@@ -130,18 +130,24 @@ module _ (limit k densePeak : ℕ) (is : List Instruction) (u : Walk) (run : Run
           },
         )
 
-    claims : m < length is → JoinClaim plan m now-active (getD is m DormantBranch)
-    claims h = first (drop m is) (at .back) (drop-cons is m DormantBranch h)
+    -- what holds of the step that the walk takes after m records holds of record m
+    pub next-step : (claim : Instruction → Type 0) → ((v : Walk) (i : Instruction) → Stepped limit (at .state) i v → Grown (v .written) (u .written) → claim i)
+        → m < length is → claim (getD is m DormantBranch)
+    next-step claim of-step h = first (drop m is) (at .back) (drop-cons is m DormantBranch h)
       where
-        first : (rest : List Instruction) → Run limit (at .state) rest u → rest ≡ getD is m DormantBranch ∷ drop (suc m) is → JoinClaim plan m now-active (getD is m DormantBranch)
+        first : (rest : List Instruction) → Run limit (at .state) rest u → rest ≡ getD is m DormantBranch ∷ drop (suc m) is → claim (getD is m DormantBranch)
         first [] r e = let z : _≡_ {A = ℕ} 0 1 = cc in absurd (omega arith)
         first (i ∷ rest) r e =
             let same : i ≡ getD is m DormantBranch = cc in
-            subst (λ (j : Instruction). JoinClaim plan m now-active j) same (of-run i rest r)
+            subst claim same (of-run i rest r)
           where
-            of-run : (i : Instruction) (rest : List Instruction) → Run limit (at .state) (i ∷ rest) u → JoinClaim plan m now-active i
-            of-run i rest (more s later) =
-                step-claim k densePeak u rotations-wide measurements-wide m now-active s (at .steps-same) (run-grown later) (at .tracked) (at .follows)
+            of-run : (i : Instruction) (rest : List Instruction) → Run limit (at .state) (i ∷ rest) u → claim i
+            of-run i rest (more {v = v} s later) = of-step v i s (run-grown later)
+
+    claims : m < length is → JoinClaim plan m now-active (getD is m DormantBranch)
+    claims h =
+        next-step (JoinClaim plan m now-active)
+        (λ v i s g. step-claim k densePeak u rotations-wide measurements-wide m now-active s (at .steps-same) g (at .tracked) (at .follows)) h
 
   -- the components are those at the start and one for each promotion
   made : plan .componentCount ≡ k + total (map isPromotion is)

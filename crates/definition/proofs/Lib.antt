@@ -3,11 +3,13 @@ pub mod Counting
 pub mod Filled
 pub mod Steps
 pub mod Joins
+pub mod Ascending
 pub mod LocalBits
 pub mod Classes
 pub mod Live
 pub mod Invariant
 pub mod Tracking
+pub mod Sources
 pub mod Growth
 pub mod Replay
 pub mod Longest
@@ -23,4 +25,5 @@ pub mod Sizes
 pub mod Words
 pub mod Connected
 pub mod Padded
+pub mod Listed
 pub mod Worked

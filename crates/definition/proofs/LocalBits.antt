@@ -1,7 +1,7 @@
 -- A local mask is its members' bits as binary digits, lowest first: halving it drops the first member. So is a support read off the masks: halving them moves
 -- on to the next position.
 use mathlib.Core.Path.{_≡_, refl, sym, ap, ap₂, _∙_, subst}
-use mathlib.Core.Logic.{⊎-elim}
+use mathlib.Core.Logic.{_⊎_, inl, inr, ⊎-elim}
 use mathlib.Core.Bool.{Bool, true, false, cond, not, _||_}
 use mathlib.Core.List.{List, [], _∷_, map}
 use Prim.Native.Nat.{ℕ, zero, suc, _+_, _/_, _%_, _^_, _≤_, _<_}
@@ -14,7 +14,8 @@ use Rattle.kernels.specs.Bits.{bitAt}
 use Rattle.definition.specs.Lists.{placeOf, numbersFrom}
 use Rattle.definition.specs.Components.{support, localMask}
 use Rattle.definition.specs.Connectivity.{Member, keep, supportOf}
-use Rattle.definition.proofs.Counting.{same-or-not, member-cons, member-head, member-tail}
+use Rattle.definition.specs.Sources.{SetBelow}
+use Rattle.definition.proofs.Counting.{same-or-not, member-cons, member-head, member-tail, member-at}
 
 -- ---- local masks
 
@@ -100,16 +101,59 @@ unfolding supportOf
 support-same x z order =
     ap₂ (λ (p q : ℕ). support p q order) (omega arith) (omega arith) ∙ support-from x z order 0 order (λ j l. ap (λ (n : ℕ). getD order n 0) (omega arith))
 
+-- the lowest bit
+pub bit-lowest : (x : ℕ) → bitAt x 0 ≡ x % 2
+bit-lowest x = omega arith
+
+-- a bit of the halves is the next one of the numbers
+set-later : (k x z p : ℕ) → SetBelow k (x / 2) (z / 2) p → SetBelow (suc k) x z (suc p)
+set-later k x z p s = (omega (arith, s .0), ⊎-elim (λ b. inl (bit-half x p ∙ b)) (λ b. inr (bit-half z p ∙ b)) (s .1))
+
+set-half : (k x z p : ℕ) → SetBelow (suc k) x z (suc p) → SetBelow k (x / 2) (z / 2) p
+set-half k x z p s = (omega (arith, s .0), ⊎-elim (λ b. inl (sym (bit-half x p) ∙ b)) (λ b. inr (sym (bit-half z p) ∙ b)) (s .1))
+
+-- a support with its first position set or not
+support-even : (x z c : ℕ) (order : List ℕ) → x % 2 + z % 2 ≡ 0 → support x z (c ∷ order) ≡ support (x / 2) (z / 2) order
+support-even x z c order e = ap (λ (t : Bool). cond t (support (x / 2) (z / 2) order) (c ∷ support (x / 2) (z / 2) order)) (eq-eqb (x % 2 + z % 2) 0 e)
+
+support-odd : (x z c : ℕ) (order : List ℕ) → (x % 2 + z % 2 ≡ 0 → ⊥) → support x z (c ∷ order) ≡ c ∷ support (x / 2) (z / 2) order
+support-odd x z c order n = ap (λ (t : Bool). cond t (support (x / 2) (z / 2) order) (c ∷ support (x / 2) (z / 2) order)) (ne-eqb (x % 2 + z % 2) 0 n)
+
+-- an entry of the support stands at a set position
+pub support-at : (x z : ℕ) (order : List ℕ) (a : ℕ) → Member a (support x z order) → (p : ℕ) × SetBelow (length order) x z p × (getD order p 0 ≡ a)
+support-at x z [] a h = absurd (omega arith)
+support-at x z (c ∷ order) a h =
+    ⊎-elim
+    (λ e. later (support-at (x / 2) (z / 2) order a (subst (λ (l : List ℕ). Member a l) (support-even x z c order e) h)))
+    (λ n. ⊎-elim
+    (λ e. (0, (omega arith, odd n), sym e))
+    (λ m. later (support-at (x / 2) (z / 2) order a m))
+    (member-cons a c (support (x / 2) (z / 2) order) (subst (λ (l : List ℕ). Member a l) (support-odd x z c order n) h)))
+    (same-or-not (x % 2 + z % 2) 0)
+  where
+    later : ((p : ℕ) × SetBelow (length order) (x / 2) (z / 2) p × (getD order p 0 ≡ a)) → (p : ℕ) × SetBelow (length (c ∷ order)) x z p × (getD (c ∷ order) p 0 ≡ a)
+    later r = (suc (r .0), set-later (length order) x z (r .0) (r .1), r .2)
+
+    odd : (x % 2 + z % 2 ≡ 0 → ⊥) → (bitAt x 0 ≡ 1) ⊎ (bitAt z 0 ≡ 1)
+    odd n =
+        let p = bit-lowest x in
+        let q = bit-lowest z in
+        ⊎-elim (λ e. inl e) (λ m. inr (⊎-elim (λ f. f) (λ k. absurd (n (omega (arith, m, k)))) (same-or-not (bitAt z 0) 1))) (same-or-not (bitAt x 0) 1)
+
+-- and every entry at a set position is one of the support
+pub at-support : (x z : ℕ) (order : List ℕ) (p : ℕ) → SetBelow (length order) x z p → Member (getD order p 0) (support x z order)
+at-support x z [] p s = absurd (omega (arith, s .0))
+at-support x z (c ∷ order) zero s =
+    let odd : x % 2 + z % 2 ≡ 0 → ⊥ = λ e. let p = bit-lowest x in let q = bit-lowest z in ⊎-elim (λ b. omega arith) (λ b. omega arith) (s .1) in
+    subst (λ (l : List ℕ). Member c l) (sym (support-odd x z c order odd)) (member-head c (support (x / 2) (z / 2) order))
+at-support x z (c ∷ order) (suc p) s =
+    let rest = at-support (x / 2) (z / 2) order p (set-half (length order) x z p s) in
+    ⊎-elim
+    (λ e. subst (λ (l : List ℕ). Member (getD order p 0) l) (sym (support-even x z c order e)) rest)
+    (λ n. subst (λ (l : List ℕ). Member (getD order p 0) l) (sym (support-odd x z c order n))
+    (member-tail (getD order p 0) c (support (x / 2) (z / 2) order) rest))
+    (same-or-not (x % 2 + z % 2) 0)
+
 -- a support holds only entries of the order
 pub support-member : (x z : ℕ) (order : List ℕ) (a : ℕ) → Member a (support x z order) → Member a order
-support-member x z [] a h = h
-support-member x z (c ∷ order) a h = go (eqb (x % 2 + z % 2) 0) h (support-member (x / 2) (z / 2) order a)
-  where
-    go : (t : Bool) → Member a (cond t (support (x / 2) (z / 2) order) (c ∷ support (x / 2) (z / 2) order))
-        → (Member a (support (x / 2) (z / 2) order) → Member a order) → Member a (c ∷ order)
-    go true m r = member-tail a c order (r m)
-    go false m r =
-        ⊎-elim
-        (λ e. subst (λ (n : ℕ). Member n (c ∷ order)) (sym e) (member-head c order))
-        (λ n. member-tail a c order (r n))
-        (member-cons a c (support (x / 2) (z / 2) order) m)
+support-member x z order a h = let at = support-at x z order a h in subst (λ (n : ℕ). Member n order) (at .2) (member-at order (at .0) (at .1 .0))

@@ -8,7 +8,7 @@ use Prim.Native.Nat.{ℕ, zero, suc, _+_, _-_, _*_, _^_, _≤_, _<_, min, max}
 use native.Mathlib.Nat.{mul-suc, mul-le-mul-left}
 use native.Mathlib.Omega.{arith}
 use lib.Dec.{eqb}
-use lib.ListN.{length, getD, take, drop, replicate, length-drop}
+use lib.ListN.{length, getD, take, drop, replicate, length-drop, length-append}
 use lib.Seq.{take-append-le, drop-append-le}
 use borrow.Author.Tests.{eq-eqb, ne-eqb}
 use Rattle.records.specs.Record.{instructionsOf}
@@ -47,6 +47,10 @@ then-zeros-at (a ∷ ws) n (suc i) = then-zeros-at ws n i
 -- every entry is the same
 pub zeroed-at : (ws held : List ℕ) (i : ℕ) → Zeroed ws held → getD held i 0 ≡ getD ws i 0
 zeroed-at ws held i z = ap (λ (l : List ℕ). getD l i 0) (z .1) ∙ then-zeros-at ws (z .0 - length ws) i
+
+-- no word is lost
+pub zeroed-length : (ws held : List ℕ) → Zeroed ws held → length ws ≤ length held
+zeroed-length ws held z = let e = ap length (z .1) ∙ length-append ws (replicate (z .0 - length ws) 0) in omega arith
 
 -- and every part that lies among the words
 pub zeroed-part : (ws held : List ℕ) (at size : ℕ) → at + size ≤ length ws → Zeroed ws held → take size (drop at held) ≡ take size (drop at ws)
@@ -164,33 +168,33 @@ kind-chosen kind k x y v w f g =
 
 module _ (p q : Plan) (pads : Pads p q) where
   -- the kind, the payload and the promotion of step m
-  kind-same : (m : ℕ) → kindAt q m ≡ kindAt p m
+  pub kind-same : (m : ℕ) → kindAt q m ≡ kindAt p m
   kind-same m = zeroed-at (p .steps) (q .steps) (2 * m) (pads .steps)
 
-  payload-same : (m : ℕ) → payloadAt q m ≡ payloadAt p m
+  pub payload-same : (m : ℕ) → payloadAt q m ≡ payloadAt p m
   payload-same m = zeroed-at (p .steps) (q .steps) (suc (2 * m)) (pads .steps)
 
   promotion-same : (m : ℕ) → getD (q .promotions) (payloadAt q m) 0 ≡ getD (p .promotions) (payloadAt p m) 0
   promotion-same m = ap (λ (n : ℕ). getD (q .promotions) n 0) (payload-same m) ∙ zeroed-at (p .promotions) (q .promotions) (payloadAt p m) (pads .promotions)
 
   -- a rotation's row, and the part of the merge list that it names
-  rotation-same : (m : ℕ) → Named p m → kindAt p m ≡ 2 → rotationAt q m ≡ rotationAt p m
+  pub rotation-same : (m : ℕ) → Named p m → kindAt p m ≡ 2 → rotationAt q m ≡ rotationAt p m
   rotation-same m named e =
       ap (λ (n : ℕ). rowAt 21 (q .rotations) n) (payload-same m)
       ∙ zeroed-part (p .rotations) (q .rotations) (21 * payloadAt p m) 21 (named .rotation e .0) (pads .rotations)
 
-  rotation-part : (m : ℕ) → Named p m → kindAt p m ≡ 2 → listedBy q (rotationAt q m) ≡ listedBy p (rotationAt p m)
+  pub rotation-part : (m : ℕ) → Named p m → kindAt p m ≡ 2 → listedBy q (rotationAt q m) ≡ listedBy p (rotationAt p m)
   rotation-part m named e =
       ap (λ (row : List ℕ). listedBy q row) (rotation-same m named e)
       ∙ zeroed-part (p .merges) (q .merges) (getD (rotationAt p m) 1 0) (getD (rotationAt p m) 2 0) (named .rotation e .1) (pads .merges)
 
   -- a measurement's row, and the part of the merge list that it names
-  measurement-same : (m : ℕ) → Named p m → kindAt p m ≡ 4 → measurementAt q m ≡ measurementAt p m
+  pub measurement-same : (m : ℕ) → Named p m → kindAt p m ≡ 4 → measurementAt q m ≡ measurementAt p m
   measurement-same m named e =
       ap (λ (n : ℕ). rowAt 19 (q .measurements) n) (payload-same m)
       ∙ zeroed-part (p .measurements) (q .measurements) (19 * payloadAt p m) 19 (named .measurement e .0) (pads .measurements)
 
-  measurement-part : (m : ℕ) → Named p m → kindAt p m ≡ 4 → listedBy q (measurementAt q m) ≡ listedBy p (measurementAt p m)
+  pub measurement-part : (m : ℕ) → Named p m → kindAt p m ≡ 4 → listedBy q (measurementAt q m) ≡ listedBy p (measurementAt p m)
   measurement-part m named e =
       ap (λ (row : List ℕ). listedBy q row) (measurement-same m named e)
       ∙ zeroed-part (p .merges) (q .merges) (getD (measurementAt p m) 1 0) (getD (measurementAt p m) 2 0) (named .measurement e .1) (pads .merges)
@@ -211,7 +215,7 @@ module _ (p q : Plan) (pads : Pads p q) where
       (kind-chosen (kindAt p m) 4 _ _ _ _ (λ e. ap (λ (row : List ℕ). dropMember (getD row 0 0) (getD row 11 0) b) (measurement-same m named e)) refl)
 
   -- the components after m records
-  after-same : (m : ℕ) → ((j : ℕ) → j < m → Named p j) → replayAfter q m ≡ replayAfter p m
+  pub after-same : (m : ℕ) → ((j : ℕ) → j < m → Named p j) → replayAfter q m ≡ replayAfter p m
   unfolding replayAfter
   after-same zero named = ap replayStart (pads .initialComponents)
   after-same (suc m) named =

@@ -5,4 +5,5 @@ pub mod Walk
 pub mod Plan
 pub mod Circuits
 pub mod Connectivity
+pub mod Sources
 pub mod Laws

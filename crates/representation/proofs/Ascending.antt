@@ -1,74 +1,24 @@
--- Ascending lists with the same members are the same list. So the sources that are found by looking for the smallest number again and again are those that the
--- definition lists in order; and the target by rank is the definition's largest, since its rank is above that of every other.
+-- The sources that are found by looking for the smallest number again and again are ascending and have the members that the definition lists in order, so they are the
+-- same list; and the target by rank is the definition's largest, since its rank is above that of every other.
 use mathlib.Core.Path.{_≡_, refl, sym, ap, ap₂, _∙_, subst}
 use mathlib.Core.Logic.{_⊎_, inl, inr, ⊎-elim}
-use mathlib.Core.Bool.{Bool, true, false, cond}
 use mathlib.Core.List.{List, [], _∷_}
 use Prim.Native.Nat.{ℕ, zero, suc, _+_, _-_, _*_, _<_, _≤_, min, max}
 use native.Mathlib.Omega.{arith}
-use lib.Dec.{eqb, ltb}
+use lib.Dec.{eqb}
 use lib.ListN.{length, getD}
-use borrow.Author.Tests.{eq-eqb, ne-eqb, ltb-true, ltb-false}
-use Rattle.definition.specs.Lists.{without, meet}
-use Rattle.definition.specs.Components.{sizeOf, meeting, larger, largest, sourcesOf}
+use borrow.Author.Tests.{eq-eqb, ne-eqb}
+use Rattle.definition.specs.Lists.{without}
+use Rattle.definition.specs.Components.{sizeOf, largest, sourcesOf}
 use Rattle.definition.specs.Connectivity.{Member}
+use Rattle.definition.specs.Sources.{Ascending, none, more}
 use Rattle.definition.proofs.Steps.{cond-yes, cond-no}
 use Rattle.definition.proofs.Counting.{same-or-not, member-head, member-tail, member-cons}
-use Rattle.definition.proofs.Joins.{meeting-meets, larger-either, largest-member, without-same, without-other}
+use Rattle.definition.proofs.Joins.{largest-member}
+use Rattle.definition.proofs.Ascending.{ascending-same, without-from, without-holds, without-ascending, Ahead, largest-ahead}
 use Rattle.positions.specs.Positions.{rank, highestRank, targetIn, leastFrom, leastIn, ascending, sourcesIn}
 
--- ---- ascending lists
-
-pub data Ascending : List ℕ → Type 0 where
-  none : Ascending []
-  more : {a : ℕ} {xs : List ℕ} → ((b : ℕ) → Member b xs → a < b) → Ascending xs → Ascending (a ∷ xs)
-
-pub ascending-same : (xs ys : List ℕ) → Ascending xs → Ascending ys → ((a : ℕ) → Member a xs → Member a ys) → ((a : ℕ) → Member a ys → Member a xs) → xs ≡ ys
-ascending-same [] [] none none f g = refl
-ascending-same [] (y ∷ ys) none (more l q) f g = absurd (let h = g y (member-head y ys) in omega arith)
-ascending-same (x ∷ xs) [] (more l q) none f g = absurd (let h = f x (member-head x xs) in omega arith)
-ascending-same (x ∷ xs) (y ∷ ys) (more l p) (more k q) f g =
-    let heads : x ≡ y =
-    ⊎-elim
-    (λ e. e)
-    (λ m. ⊎-elim (λ e. sym e) (λ n. absurd (let a = k x m in let b = l y n in omega arith)) (member-cons y x xs (g y (member-head y ys))))
-    (member-cons x y ys (f x (member-head x xs))) in
-    ap₂ (λ (a : ℕ) (rest : List ℕ). a ∷ rest) heads
-    (ascending-same xs ys p q
-    (λ a m. ⊎-elim (λ e. absurd (let b = l a m in omega arith)) (λ n. n) (member-cons a y ys (f a (member-tail a x xs m))))
-    (λ a m. ⊎-elim (λ e. absurd (let b = k a m in omega arith)) (λ n. n) (member-cons a x xs (g a (member-tail a y ys m)))))
-
--- touched components are listed in ascending order
-pub meeting-ascending : (n : ℕ) (s : List ℕ) (cs : List (List ℕ)) → Ascending (meeting n s cs)
-meeting-ascending n s [] = none
-meeting-ascending n s (m ∷ cs) = go (meet s m) refl (meeting-ascending (suc n) s cs)
-  where
-    go : (t : Bool) → meet s m ≡ t → Ascending (meeting (suc n) s cs) → Ascending (meeting n s (m ∷ cs))
-    go true e rest =
-        subst Ascending (sym (cond-yes (meet s m) _ _ e))
-        (more (λ b h. let k = meeting-meets (suc n) s cs b h in omega (arith, k .0)) rest)
-    go false e rest = subst Ascending (sym (cond-no (meet s m) _ _ e)) rest
-
 -- ---- a list without one of its numbers
-
-pub without-from : (a b : ℕ) (xs : List ℕ) → Member b (without a xs) → Member b xs × (b ≡ a → ⊥)
-without-from a b xs h =
-    ⊎-elim
-    (λ e. absurd (let z = without-same a xs in let k : Member a (without a xs) = subst (λ (n : ℕ). Member n (without a xs)) e h in omega arith))
-    (λ n. (subst (λ (k : ℕ). 0 < k) (without-other b a xs n) h, n))
-    (same-or-not b a)
-
-pub without-holds : (a b : ℕ) (xs : List ℕ) → Member b xs → (b ≡ a → ⊥) → Member b (without a xs)
-without-holds a b xs h n = subst (λ (k : ℕ). 0 < k) (sym (without-other b a xs n)) h
-
-pub without-ascending : (a : ℕ) (xs : List ℕ) → Ascending xs → Ascending (without a xs)
-without-ascending a [] none = none
-without-ascending a (x ∷ xs) (more l p) =
-    ⊎-elim
-    (λ e. subst Ascending (sym (cond-yes (eqb a x) _ _ (eq-eqb a x e))) (without-ascending a xs p))
-    (λ n. subst Ascending (sym (cond-no (eqb a x) _ _ (ne-eqb a x n)))
-    (more (λ b h. l b (without-from a b xs h .0)) (without-ascending a xs p)))
-    (same-or-not a x)
 
 without-most : (a : ℕ) (xs : List ℕ) → length (without a xs) ≤ length xs
 without-most a [] = omega arith
@@ -195,40 +145,10 @@ module _ (size : List ℕ) where
 abbrev pub rankIn : List (List ℕ) → ℕ → ℕ
 rankIn cs c = sizeOf cs c * 65536 + (65535 - c)
 
-larger-top : (cs : List (List ℕ)) (best c : ℕ) → best < c → c ≤ 65535 → (rankIn cs best ≤ rankIn cs (larger cs best c)) × (rankIn cs c ≤ rankIn cs (larger cs best c))
-larger-top cs best c h small = go (ltb (sizeOf cs best) (sizeOf cs c)) refl
-  where
-    go : (t : Bool) → ltb (sizeOf cs best) (sizeOf cs c) ≡ t → (rankIn cs best ≤ rankIn cs (cond t c best)) × (rankIn cs c ≤ rankIn cs (cond t c best))
-    go true e = let l = ltb-true (sizeOf cs best) (sizeOf cs c) e in (omega arith, omega arith)
-    go false e = let l = ltb-false (sizeOf cs best) (sizeOf cs c) e in (omega arith, omega arith)
-
--- the definition's largest has the highest rank
-pub largest-top : (cs : List (List ℕ)) (best : ℕ) (rest : List ℕ) → ((c : ℕ) → Member c rest → best < c) → Ascending rest
-    → ((c : ℕ) → Member c (best ∷ rest) → c ≤ 65535) → (c : ℕ) → Member c (best ∷ rest) → rankIn cs c ≤ rankIn cs (largest cs best rest)
-largest-top cs best [] l a small c h = ⊎-elim (λ e. let f = ap (rankIn cs) e in omega arith) (λ m. absurd (omega arith)) (member-cons c best [] h)
-largest-top cs best (d ∷ rest) l (more k a) small c h =
-    let next = larger cs best d in
-    let first = l d (member-head d rest) in
-    let top = larger-top cs best d first (small d (member-tail d best (d ∷ rest) (member-head d rest))) in
-    let later : (b : ℕ) → Member b rest → next < b =
-    λ b m. let below = k b m in ⊎-elim (λ e. omega arith) (λ e. omega arith) (larger-either cs best d) in
-    let small' : (b : ℕ) → Member b (next ∷ rest) → b ≤ 65535 =
-    λ b m. ⊎-elim
-    (λ e. ⊎-elim
-    (λ f. let s = small best (member-head best (d ∷ rest)) in omega arith)
-    (λ f. let s = small d (member-tail d best (d ∷ rest) (member-head d rest)) in omega arith)
-    (larger-either cs best d))
-    (λ n. small b (member-tail b best (d ∷ rest) (member-tail b d rest n)))
-    (member-cons b next rest m) in
-    let best-of = largest-top cs next rest later a small' in
-    let at-next = best-of next (member-head next rest) in
-    ⊎-elim
-    (λ e. let f = ap (rankIn cs) e in omega (arith, top .0))
-    (λ m. ⊎-elim
-    (λ e. let f = ap (rankIn cs) e in omega (arith, top .1))
-    (λ n. best-of c (member-tail c next rest n))
-    (member-cons c d rest m))
-    (member-cons c best (d ∷ rest) h)
+-- the one that is ahead has the higher rank
+ahead-rank : (cs : List (List ℕ)) (t c : ℕ) → c ≤ 65535 → Ahead cs t c → rankIn cs c ≤ rankIn cs t
+ahead-rank cs t c small h =
+    ⊎-elim (λ e. let k = h .1 e in omega arith) (λ n. omega (arith, h .0, n)) (same-or-not (sizeOf cs c) (sizeOf cs t))
 
 -- ---- the sources
 
@@ -243,7 +163,8 @@ sources-are size cs found [] a some sizes f g = absurd (omega arith)
 sources-are size cs found (c ∷ rest) (more l a) some sizes f g =
     let t = largest cs c rest in
     let here = largest-member cs c rest in
-    let top = largest-top cs c rest l a (λ b m. let s = sizes b m in omega (arith, s .0)) in
+    let top : (b : ℕ) → Member b (c ∷ rest) → rankIn cs b ≤ rankIn cs t =
+    λ b m. ahead-rank cs t b (let s = sizes b m in omega (arith, s .0)) (largest-ahead cs c rest (more l a) b m) in
     let small : Numbers found = λ b m. sizes b (f b m) .0 in
     let rank-same : (b : ℕ) → Member b (c ∷ rest) → rank size b ≡ rankIn cs b = λ b m. ap (λ (n : ℕ). n * 65536 + (65535 - b)) (sizes b m .1) in
     let target : targetIn size found ≡ t =

@@ -19,11 +19,11 @@ use Rattle.definition.specs.Connectivity.{Member, NoRepeats, ActiveOrder}
 use Rattle.definition.proofs.Steps.{cond-no}
 use Rattle.definition.proofs.Counting.{same-or-not, member-or-not, member-head, member-tail, member-at, member-isIn, absent-isIn, place-below, place-holds, occurrences-listed}
 use Rattle.definition.proofs.Invariant.{Holds, listed-active}
-use Rattle.definition.proofs.LocalBits.{bit-half}
+use Rattle.definition.proofs.LocalBits.{bit-half, bit-lowest}
 use Rattle.state.specs.declared.State.{State}
 use Rattle.positions.specs.Positions.{localOf}
 use Rattle.representation.specs.Represents.{Represents}
-use Rattle.representation.proofs.Picked.{cutBoth, maskOf, cut-half, cut-lowest, bit-lowest, lowest}
+use Rattle.representation.proofs.Picked.{cutBoth, maskOf, cut-half, cut-lowest, lowest}
 use Rattle.representation.proofs.Sources.{stands, stands-in}
 use Rattle.representation.proofs.Moving.{once-at}
 

@@ -17,7 +17,7 @@ use Rattle.definition.specs.Components.{support, orFirst, reached}
 use Rattle.definition.specs.Connectivity.{Member}
 use Rattle.definition.proofs.Steps.{cond-yes, cond-no}
 use Rattle.definition.proofs.Counting.{same-or-not, member-head, member-tail, member-cons}
-use Rattle.definition.proofs.LocalBits.{bit-half}
+use Rattle.definition.proofs.LocalBits.{bit-half, bit-lowest}
 use Rattle.definition.proofs.Invariant.{anchored-cases}
 use Rattle.positions.specs.Positions.{picked, reachedMask}
 
@@ -32,9 +32,6 @@ picked-out m a xs e = cond-yes (eqb (m % 2) 0) _ _ (eq-eqb (m % 2) 0 e)
 
 pub picked-in : (m a : ℕ) (xs : List ℕ) → m % 2 ≡ 1 → picked m (a ∷ xs) ≡ a ∷ picked (m / 2) xs
 picked-in m a xs e = cond-no (eqb (m % 2) 0) _ _ (ne-eqb (m % 2) 0 (λ f. omega arith))
-
-pub bit-lowest : (m : ℕ) → bitAt m 0 ≡ m % 2
-bit-lowest m = omega arith
 
 -- what is picked stands at a set bit's position
 pub picked-at : (m : ℕ) (xs : List ℕ) (c : ℕ) → Member c (picked m xs) → (p : ℕ) × (p < length xs) × (bitAt m p ≡ 1) × (getD xs p 0 ≡ c)

@@ -8,6 +8,7 @@ use lib.ListN.{length, getD}
 use Rattle.definition.specs.Components.{membersOf, support, reached, meeting, touched, sourcesOf}
 use Rattle.definition.specs.Connectivity.{Member, ActiveOrder}
 use Rattle.definition.proofs.Counting.{member-length, member-at}
+use Rattle.definition.proofs.Ascending.{meeting-ascending}
 use Rattle.definition.proofs.Joins.{meet-shares, shares-meet, meeting-meets, meets-meeting}
 use Rattle.kernels.specs.Bits.{bitAt}
 use Rattle.definition.proofs.Invariant.{touched-source, Holds, one-list, anchored-some, anchored-member, active-listed}
@@ -16,7 +17,7 @@ use Rattle.state.specs.declared.State.{State}
 use Rattle.positions.specs.Positions.{picked, sourcesIn}
 use Rattle.representation.specs.Represents.{Represents}
 use Rattle.representation.proofs.Picked.{maskOf, mask-below, bit-below, picked-at, at-picked, picked-reached}
-use Rattle.representation.proofs.Ascending.{meeting-ascending, sources-are}
+use Rattle.representation.proofs.Ascending.{sources-are}
 
 module _ (s : State) (cs : List (List ℕ)) (r : ActiveOrder) (h : Holds cs r) (rep : Represents s (r .order) cs) where
   -- the coordinate at a position is a member of the position's component
