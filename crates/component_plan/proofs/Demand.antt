@@ -1,8 +1,8 @@
--- Demand 3, and the laws of the whole works, of what a call leaves: its contract says that the answer's fields are those of the definition's plan and that each buffer holds that plan's words and
+-- Demand 3, the sources of each join, and the laws of the whole works, of what a call leaves: its contract says that the answer's fields are those of the definition's plan and that each buffer holds that plan's words and
 -- zeros behind them, and the claims that hold of a plan hold of its words followed by zeros.
-use Prim.Native.Nat.{ℕ, _≤_}
+use Prim.Native.Nat.{ℕ, _/_, _≤_}
 use native.Mathlib.Omega.{arith}
-use mathlib.Core.Path.{_≡_, refl, subst, subst₂}
+use mathlib.Core.Path.{_≡_, refl, ap, _∙_, subst, subst₂}
 use mathlib.Core.List.{List}
 use lib.ListN.{length}
 use lib.Ieee.{Float}
@@ -11,17 +11,20 @@ use Rattle.records.specs.declared.Head.{Head}
 use Rattle.definition.specs.WholeWorks.{WholeWorks}
 use Rattle.definition.specs.Plan.{Plan, Result, planned, refusedAt, planOf}
 use Rattle.definition.specs.Connectivity.{Connected}
+use Rattle.definition.specs.Sources.{SourcesListed}
 use Rattle.definition.specs.Laws.{Agree, TooWideExactly}
 use Rattle.definition.proofs.Accepted.{accepted}
 use Rattle.definition.proofs.Connected.{read-head, connected}
 use Rattle.definition.proofs.Padded.{Pads, connected-padded}
+use Rattle.definition.proofs.Listed.{listed-padded}
 use Rattle.definition.proofs.WholeWorks.{works-agree, too-wide-exactly}
 use Rattle.tally.specs.Tally.{worksOf}
+use Rattle.outputs.specs.declared.WordCounts.{WordCounts}
 use Rattle.walk.specs.Walking.{Buffers, lengthsOf}
 use Rattle.answer.specs.declared.ActiveComponentPlan.{ActiveComponentPlan}
 use Rattle.answer.specs.declared.Planned.the-variants as P
 use Rattle.lent.specs.Lent.{Held}
-use Rattle.answer.specs.Outcome.{outcomeOf, outcomeIn}
+use Rattle.answer.specs.Outcome.{usedIn, outcomeOf, outcomeIn}
 use Rattle.component_plan.specs.Answer.{Answers}
 use Rattle.component_plan.specs.Demand.{planIn}
 
@@ -59,6 +62,22 @@ call-connected limit h ws before after r a wide none m within =
     let plan = accepted limit h ws (lengthsOf before) p (read-head h wide none) (found .1) in
     connected-padded limit h ws (lengthsOf before) p (planIn r after) plan (found .2) m within
     (connected limit h ws (lengthsOf before) p (found .1) wide none m within)
+
+-- an answer that is a plan counts the definition's words
+planned-used : (result : Result) (r : ActiveComponentPlan) → outcomeOf (P.Plan r) ≡ outcomeIn result → (p : Plan) → result ≡ planned p → usedIn p ≡ r .used
+planned-used result r e p same = let given : outcomeOf (P.Plan r) ≡ outcomeIn (planned p) = e ∙ ap outcomeIn same in cc
+
+-- 02, CR 3, of the answer and the buffers that a call leaves: each row's part of the merge list, by the numbers of used words
+pub call-sources : (limit : ℕ) (h : Head) (ws : List ℕ) (before after : Buffers) (r : ActiveComponentPlan)
+    → Answers limit h ws before after (P.Plan r) → 8 ≤ h .«max_k» → h .nexpvals ≡ 0
+    → SourcesListed (h .«initial_k») (instructionsOf ws) (planIn r after) (r .used .rotations / 21) (r .used .measurements / 19)
+call-sources limit h ws before after r a wide none =
+    let result = planOf limit h ws (lengthsOf before) in
+    let found = planned-pads result before after r (a .answer) (a .held) in
+    let p = found .0 in
+    let used = planned-used result r (a .answer) p (found .1) in
+    subst (λ (n : WordCounts). SourcesListed (h .«initial_k») (instructionsOf ws) (planIn r after) (n .rotations / 21) (n .measurements / 19)) used
+    (listed-padded limit h ws (lengthsOf before) p (planIn r after) (accepted limit h ws (lengthsOf before) p (read-head h wide none) (found .1)) (found .2))
 
 -- an answer that is a plan has the definition's works
 planned-works : (result : Result) (r : ActiveComponentPlan) → outcomeOf (P.Plan r) ≡ outcomeIn result

@@ -18,6 +18,8 @@ use Rattle.definition.specs.Lists.{concat, placeOf, removeAt}
 use Rattle.definition.specs.Components.{localMask}
 use Rattle.definition.specs.Walk.{Written, Walk, Join, joinOf, noStep, ignoredStep, promotionStep, rotationStep, measurementStep, start, step, finished, onward, walkFrom}
 use Rattle.definition.specs.Plan.{Plan, planFrom, planOf, unread}
+use Rattle.definition.specs.Connectivity.{listedBy}
+use Rattle.definition.specs.Sources.{Listed}
 use Rattle.definition.proofs.Steps.{Stepped, ignored, rotated, promoted, measured, recorded, detected, expected, branched, Run, more, run-of-walk}
 use Rattle.definition.proofs.Growth.{Extends, extends-trans, extends-length, Grown, AllOf, length-concat, concat-append, concat-more, rotation-row-length, measurement-row-length, run-grown, run-rotations, run-measurements, start-wide}
 use Rattle.definition.proofs.Replay.{seam-part, seam-entry}
@@ -185,3 +187,7 @@ planned-back limit h ws before after r answers read i below =
       run-given-back (plan .last) after held i (subst (λ (l : List Instruction). Run limit w l (plan .last)) (drop-cons is i DormantBranch below) (on .2))
           (instruction-floats ws i below) (omega arith) (run-rotations front (start-wide k 21 .0)) (run-measurements front (start-wide k 19 .1)),
     )
+
+-- and the part that the offset and the count of a join's row give is the row's list, of which `Demand.call-sources` tells what stands in it
+pub listed-part : (p : Plan) (m kind : ℕ) (row order : List ℕ) (x z : ℕ) → Listed p m kind row order x z → partOf (p .merges) (getD row 1 0) (getD row 2 0) ≡ listedBy p row
+listed-part p m kind row order x z c = part-there (p .merges) (getD row 1 0) (getD row 2 0) (c .inside)
