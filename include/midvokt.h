@@ -140,7 +140,10 @@ enum midvokt_step_kind {
 
 /* Merges: the sources of all rows, one row's after the other's. A row's part begins at its
  * merge offset and has merge count words: first the component that the others join, then
- * the others by ascending number. Where nothing joins it is the component alone, 1 word. */
+ * all others that the record touches, each once, by strictly ascending number, and nothing
+ * else. A record touches the components of the positions that are set in its x or z, or, if
+ * none is, that of position 0. The first is the one with the most members, of equals the
+ * one with the smallest number. Where nothing joins it is the component alone, 1 word. */
 
 /* Sizes: the most members that each component ever has, by its number. */
 

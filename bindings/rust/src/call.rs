@@ -140,6 +140,8 @@ impl Buffers<'_> {
     }
 
     /// The part of the merge list that a row names; empty if it runs past the end.
+    /// Of a row that planning wrote: its component, then all others that the record touches, each
+    /// once, by strictly ascending number, and nothing else.
     pub fn sources(&self, merge_offset: usize, merge_count: usize) -> &[u64] {
         part(self.merges, merge_offset, merge_count).unwrap_or(&[])
     }
