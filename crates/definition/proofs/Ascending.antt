@@ -85,9 +85,10 @@ largest-ahead cs best [] a c h =
     ⊎-elim (λ e. let f = ap (sizeOf cs) e in (omega arith, λ g. omega arith)) (λ m. absurd (omega arith)) (member-cons c best [] h)
 largest-ahead cs best (d ∷ rest) (more l (more k a)) c h =
     let next = larger cs best d in
-    let ahead = larger-ahead cs best d (l d (member-head d rest)) in
+    let below : best < d = let h = l d (member-head d rest) in omega arith in
+    let ahead = larger-ahead cs best d below in
     let later : (b : ℕ) → Member b rest → next < b =
-    λ b m. let below = k b m in let under = l b (member-tail b d rest m) in ⊎-elim (λ e. omega arith) (λ e. omega arith) (larger-either cs best d) in
+    λ b m. let h = k b m in let g = l b (member-tail b d rest m) in ⊎-elim (λ e. omega arith) (λ e. omega arith) (larger-either cs best d) in
     let of-next = largest-ahead cs next rest (more later a) in
     let t = largest cs next rest in
     ⊎-elim
