@@ -13,7 +13,7 @@ use borrow.Author.Tests.{eq-eqb, ne-eqb}
 use Rattle.definition.specs.Lists.{removeAt, numbersFrom, concat}
 use Rattle.definition.specs.Components.{reached, support, orFirst, meeting, touched, sourcesOf, joined}
 use Rattle.definition.specs.Connectivity.{occurrences, Member, NoRepeats, Rearranged, ActiveOrder, activeStart, supportOf, merged, classOf, replayJoin, joinedMembers}
-use Rattle.definition.proofs.Counting.{same-or-not, member-or-not, one-here, none-here, member-head, member-cons, occurrences-append, occurrences-concat-append, occurrences-set, occurrences-listed, member-listed, occurrences-removeAt, numbers-once, numbers-bounds, length-numbers}
+use Rattle.definition.proofs.Counting.{same-or-not, member-or-not, one-here, none-here, member-head, member-cons, occurrences-append, occurrences-concat-append, occurrences-set, occurrences-listed, member-listed, member-at, occurrences-removeAt, numbers-once, numbers-bounds, length-numbers}
 use Rattle.definition.proofs.Joins.{meet-shares, shares-meet, meeting-meets, meets-meeting, meeting-once, sources-same, length-joined, joined-is, joined-count, gathered-joined, join-cases, join-target, gathered-from, gathered-holds}
 use Rattle.definition.proofs.LocalBits.{support-same, support-member}
 use Rattle.definition.proofs.Live as Live
@@ -52,13 +52,14 @@ active-listed cs r h a m = member-listed a cs (let k = h .held a in omega arith)
 
 -- ---- a join
 
--- what a join's coordinates are: active, and some where anything is active
-first-member : (order : List ℕ) (a : ℕ) → Member a (take 1 order) → Member a order
-first-member [] a h = h
-first-member (b ∷ order) a h = let l = member-cons a b [] h in ⊎-elim (λ e. subst (λ (k : ℕ). Member k (b ∷ order)) (sym e) (member-head b order)) (λ n. absurd (omega arith)) l
+-- the first of an order stands at its front
+pub first-at : (order : List ℕ) (a : ℕ) → Member a (take 1 order) → (0 < length order) × (getD order 0 0 ≡ a)
+first-at [] a h = absurd (omega arith)
+first-at (b ∷ order) a h = (omega arith, ⊎-elim (λ e. sym e) (λ m. absurd (omega arith)) (member-cons a b [] h))
 
+-- what a join's coordinates are: active, and some where anything is active
 pub anchored-member : (order s : List ℕ) → ((a : ℕ) → Member a s → Member a order) → (a : ℕ) → Member a (orFirst order s) → Member a order
-anchored-member order [] inside a h = first-member order a h
+anchored-member order [] inside a h = let at = first-at order a h in subst (λ (k : ℕ). Member k order) (at .1) (member-at order 0 (at .0))
 anchored-member order (c ∷ s) inside a h = inside a h
 
 pub anchored-some : (order s : List ℕ) → 0 < length order → (a : ℕ) × Member a (orFirst order s)
@@ -71,12 +72,7 @@ anchored-cases order [] = inl refl
 anchored-cases order (c ∷ s) = inr refl
 
 first-same : (order : List ℕ) (d e : ℕ) → Member d (take 1 order) → Member e (take 1 order) → d ≡ e
-first-same [] d e m n = absurd (omega arith)
-first-same (b ∷ order) d e m n =
-    ⊎-elim
-    (λ p. ⊎-elim (λ q. p ∙ sym q) (λ k. absurd (omega arith)) (member-cons e b [] n))
-    (λ k. absurd (omega arith))
-    (member-cons d b [] m)
+first-same order d e m n = sym (first-at order d m .1) ∙ first-at order e n .1
 
 module _ (cs : List (List ℕ)) (r : ActiveOrder) (h : Holds cs r) (x z : ℕ) where
   abbrev pub coordinates : List ℕ

@@ -17,16 +17,12 @@ use Rattle.definition.proofs.Steps.{run-of-walk}
 use Rattle.definition.proofs.Joins.{largest-member}
 use Rattle.definition.proofs.Ascending.{ascending-same, meeting-ascending, without-from, without-ascending, Ahead, largest-ahead}
 use Rattle.definition.proofs.LocalBits.{support-at, at-support}
-use Rattle.definition.proofs.Invariant.{listed-below, anchored-cases, sources-once, source-holds, holds-source}
+use Rattle.definition.proofs.Invariant.{listed-below, first-at, anchored-cases, sources-once, source-holds, holds-source}
 use Rattle.definition.proofs.Tracking.{Tracked, activeOf, tracked-here, target-source, start-tracked, run-tracked}
 
 -- ---- what the masks reach
 
 -- the first entry
-first-at : (order : List ℕ) (a : ℕ) → Member a (take 1 order) → (0 < length order) × (getD order 0 0 ≡ a)
-first-at [] a h = absurd (omega arith)
-first-at (c ∷ order) a h = (omega arith, ⊎-elim (λ e. sym e) (λ m. absurd (omega arith)) (member-cons a c [] h))
-
 at-first : (order : List ℕ) → 0 < length order → Member (getD order 0 0) (take 1 order)
 at-first [] h = absurd (omega arith)
 at-first (c ∷ order) h = member-head c []
@@ -115,6 +111,7 @@ walk-sources limit k is w e = tracked-sources w _ (run-tracked (activeStart k) (
 -- ---- one list only
 
 module _ {order : List ℕ} {components : Replayed} {x z : ℕ} {l m : List ℕ} (s : Sources order components x z l) (t : Sources order components x z m) where
+  -- both have the same target
   same-target : s .target ≡ t .target
   same-target =
       let a = s .chosen .largest (t .target) (t .chosen .touched) in

@@ -23,16 +23,11 @@ use Rattle.definition.proofs.LocalBits.{bit-half, bit-lowest}
 use Rattle.state.specs.declared.State.{State}
 use Rattle.positions.specs.Positions.{localOf}
 use Rattle.representation.specs.Represents.{Represents}
-use Rattle.representation.proofs.Picked.{cutBoth, maskOf, cut-half, cut-lowest, lowest}
+use Rattle.representation.proofs.Picked.{no-bit, cutBoth, maskOf, cut-half, cut-lowest, lowest}
 use Rattle.representation.proofs.Sources.{stands, stands-in}
 use Rattle.representation.proofs.Moving.{once-at}
 
 -- ---- bits of a mask that is cut
-
--- 0 has no bits
-pub no-bit : (p : ℕ) → bitAt 0 p ≡ 0
-no-bit zero = refl
-no-bit (suc p) = bit-half 0 p ∙ no-bit p
 
 -- below the cut the bits are the mask's
 pub cut-low : (x k p : ℕ) → p < k → bitAt (x % 2 ^ k) p ≡ bitAt x p

@@ -2,6 +2,7 @@
 -- components by position is the components of these coordinates.
 use mathlib.Core.Path.{_≡_, refl, sym, ap, ap₂, _∙_, subst}
 use mathlib.Core.Logic.{_⊎_, inl, inr, ⊎-elim}
+use mathlib.Core.Bool.{cond}
 use mathlib.Core.List.{List, [], _∷_}
 use Prim.Native.Nat.{ℕ, zero, suc, _+_, _*_, _/_, _%_, _^_, _<_, _≤_, max}
 use native.Mathlib.Omega.{arith}
@@ -16,8 +17,8 @@ use Rattle.kernels.specs.Bits.{bitAt}
 use Rattle.definition.specs.Components.{support, orFirst, reached}
 use Rattle.definition.specs.Connectivity.{Member}
 use Rattle.definition.proofs.Steps.{cond-yes, cond-no}
-use Rattle.definition.proofs.Counting.{same-or-not, member-head, member-tail, member-cons}
-use Rattle.definition.proofs.LocalBits.{bit-half, bit-lowest}
+use Rattle.definition.proofs.Counting.{same-or-not}
+use Rattle.definition.proofs.LocalBits.{bit-half, bit-lowest, support-at, at-support}
 use Rattle.definition.proofs.Invariant.{anchored-cases}
 use Rattle.positions.specs.Positions.{picked, reachedMask}
 
@@ -33,33 +34,27 @@ picked-out m a xs e = cond-yes (eqb (m % 2) 0) _ _ (eq-eqb (m % 2) 0 e)
 pub picked-in : (m a : ℕ) (xs : List ℕ) → m % 2 ≡ 1 → picked m (a ∷ xs) ≡ a ∷ picked (m / 2) xs
 picked-in m a xs e = cond-no (eqb (m % 2) 0) _ _ (ne-eqb (m % 2) 0 (λ f. omega arith))
 
+-- 0 has no bits
+pub no-bit : (p : ℕ) → bitAt 0 p ≡ 0
+no-bit zero = refl
+no-bit (suc p) = bit-half 0 p ∙ no-bit p
+
+-- what a mask picks is the support of that mask alone
+picked-is : (m : ℕ) (xs : List ℕ) → picked m xs ≡ support m 0 xs
+picked-is m [] = refl
+picked-is m (a ∷ xs) =
+    let first : m % 2 ≡ m % 2 + 0 % 2 = omega arith in
+    ap₂ (λ (n : ℕ) (rest : List ℕ). cond (eqb n 0) rest (a ∷ rest)) first (picked-is (m / 2) xs)
+
 -- what is picked stands at a set bit's position
 pub picked-at : (m : ℕ) (xs : List ℕ) (c : ℕ) → Member c (picked m xs) → (p : ℕ) × (p < length xs) × (bitAt m p ≡ 1) × (getD xs p 0 ≡ c)
-picked-at m [] c h = absurd (omega arith)
-picked-at m (a ∷ xs) c h =
-    ⊎-elim
-    (λ e. later (picked-at (m / 2) xs c (subst (λ (l : List ℕ). Member c l) (picked-out m a xs e) h)))
-    (λ e. ⊎-elim
-    (λ here. (0, omega arith, bit-lowest m ∙ e, sym here))
-    (λ rest. later (picked-at (m / 2) xs c rest))
-    (member-cons c a (picked (m / 2) xs) (subst (λ (l : List ℕ). Member c l) (picked-in m a xs e) h)))
-    (lowest m)
-  where
-    later : ((p : ℕ) × (p < length xs) × (bitAt (m / 2) p ≡ 1) × (getD xs p 0 ≡ c))
-        → (p : ℕ) × (p < length (a ∷ xs)) × (bitAt m p ≡ 1) × (getD (a ∷ xs) p 0 ≡ c)
-    later r = (suc (r .0), omega (arith, r .1), bit-half m (r .0) ∙ r .2, r .3)
+picked-at m xs c h =
+    let at = support-at m 0 xs c (subst (λ (l : List ℕ). Member c l) (picked-is m xs) h) in
+    (at .0, at .1 .0, ⊎-elim (λ b. b) (λ b. absurd (let z = no-bit (at .0) in omega arith)) (at .1 .1), at .2)
 
 -- and what stands at a set bit's position is picked
 pub at-picked : (m : ℕ) (xs : List ℕ) (p : ℕ) → p < length xs → bitAt m p ≡ 1 → Member (getD xs p 0) (picked m xs)
-at-picked m [] p h b = absurd (omega arith)
-at-picked m (a ∷ xs) zero h b =
-    subst (λ (l : List ℕ). Member a l) (sym (picked-in m a xs (sym (bit-lowest m) ∙ b))) (member-head a (picked (m / 2) xs))
-at-picked m (a ∷ xs) (suc p) h b =
-    let rest = at-picked (m / 2) xs p (omega arith) (sym (bit-half m p) ∙ b) in
-    ⊎-elim
-    (λ e. subst (λ (l : List ℕ). Member (getD xs p 0) l) (sym (picked-out m a xs e)) rest)
-    (λ e. subst (λ (l : List ℕ). Member (getD xs p 0) l) (sym (picked-in m a xs e)) (member-tail (getD xs p 0) a (picked (m / 2) xs) rest))
-    (lowest m)
+at-picked m xs p h b = subst (λ (l : List ℕ). Member (getD xs p 0) l) (sym (picked-is m xs)) (at-support m 0 xs p (h, inl b))
 
 -- nothing is picked by an empty mask
 pub picked-none : (xs : List ℕ) → picked 0 xs ≡ []
