@@ -71,12 +71,17 @@ extern "C" {
 #endif
 
 /* The project's version. */
-#define MIDVOKT_VERSION "0.4.1"
+#define MIDVOKT_VERSION "0.5.0"
 
 /* Bytes of stack that each call needs, whatever its arguments. At its worst a call was measured
  * to use 13,896 of them on x86-64: 10,776 of its own, and 3,120 where the system looks up
- * memcpy only as the first call reaches it. It calls nothing back and does not recurse. */
+ * memcpy only as the first call reaches it; a later call, 10,792 at its worst. It calls nothing
+ * back and does not recurse. */
 #define MIDVOKT_STACK_BYTES 16384
+
+/* The largest ceiling, that of a controller that holds registers of up to 61 coordinates. With
+ * it everything is planned that can be. */
+#define MIDVOKT_LARGEST_CEILING 62
 
 /* ---- Records: eight words each ------------------------------------------------------ */
 
@@ -346,7 +351,7 @@ enum midvokt_load_result_word {
 enum midvokt_number {
     MIDVOKT_PLANNED = 0,                     /* there is a plan, and what was asked is done */
     /* the head and the buffers; the index is 0 */
-    MIDVOKT_REFUSED_MAX_K = 1,               /* max_k is 62 or more */
+    MIDVOKT_REFUSED_MAX_K = 1,               /* max_k is the ceiling or more */
     MIDVOKT_REFUSED_RECORD_WORDS = 2,        /* no multiple of 8, or more than 8,192 */
     MIDVOKT_REFUSED_BUFFERS = 3,             /* a buffer is too short */
     MIDVOKT_REFUSED_INITIAL_K = 4,           /* initial_k is more than 512 */
@@ -361,7 +366,8 @@ enum midvokt_number {
     MIDVOKT_REFUSED_ROTATION_WIDTH = 11,     /* not the number of active coordinates */
     MIDVOKT_REFUSED_MEASUREMENT_WIDTH = 12,  /* not the number of active coordinates */
     MIDVOKT_REFUSED_NOTHING_ACTIVE = 13,     /* a measurement with no active coordinate */
-    MIDVOKT_REFUSED_COMPONENT_SIZE = 14,     /* a join makes a component of 62 */
+    MIDVOKT_REFUSED_COMPONENT_SIZE = 14,     /* a join makes a component of as many
+                                                members as the ceiling, or more */
     MIDVOKT_REFUSED_PIVOT = 15,              /* the pivot is not an active position */
     MIDVOKT_REFUSED_PIVOT_COMPONENT = 16,    /* its coordinate is in another component */
     MIDVOKT_REFUSED_PIVOT_X = 17,            /* local x is not 0, no x bit at the pivot */
@@ -374,11 +380,13 @@ enum midvokt_number {
     MIDVOKT_REFUSED_SECTIONS = 22,           /* load: a section does not start where the one
                                                 before it stops, the first not at word 0, or the
                                                 last does not stop at the trailer */
-    MIDVOKT_REFUSED_LENGTHS = 23             /* store: the file's buffer is too short. load: steps
+    MIDVOKT_REFUSED_LENGTHS = 23,            /* store: the file's buffer is too short. load: steps
                                                 odd, sizes other than component_count, rotations
                                                 no multiple of 21, measurements none of 19,
                                                 scalars other than 8, or an output shorter than
                                                 its section */
+    /* the head, before all others; the index is 0 */
+    MIDVOKT_REFUSED_CEILING = 24             /* the ceiling is not 1 to 62 */
 };
 
 /*
@@ -391,9 +399,13 @@ enum midvokt_number {
  *               peak is 2 to the power of max_k, and the components may allocate 1.25 times
  *               as much to be selected. Give the greatest number of active coordinates; it is
  *               not held to the records. Below 8 nothing is planned (see below): give 8 to
- *               have the rows of a small circuit. 62 or more is refused
+ *               have the rows of a small circuit. The ceiling or more is refused
  *   nexpvals    the number of expectation values that the program has; a program that has any
  *               is not split
+ *   ceiling     what the controller holds: registers of fewer coordinates than this, 1 to
+ *               MIDVOKT_LARGEST_CEILING. A record whose join would make a component of so many
+ *               members is refused; the active coordinates of a record may be more, up to 62.
+ *               A plan that is given at one ceiling is given at every larger one, word for word
  *   records     the records, one behind the other, eight words each; records_len counts words
  *   steps, merges, sizes, rotations, promotions, measurements, groups
  *               the outputs; at least as many words as the macros above say. Every word of
@@ -401,13 +413,13 @@ enum midvokt_number {
  *   result      the refused record, the plan's scalar fields and its whole works; of any
  *               length
  *
- * Where max_k is below 8 or nexpvals is not 0 (and max_k is below 62) records and buffer
- * lengths are not looked at, and there is a plan: not selected, the dense peak 2 to the power
+ * Where max_k is below 8 or nexpvals is not 0 (and the ceiling is 1 to 62 and max_k below it)
+ * records and buffer lengths are not looked at, and there is a plan: not selected, the dense peak 2 to the power
  * of max_k, initial_k copied into the result whatever it is, the mark 1 (both works are 0),
  * and all else zero, all outputs too. To tell such a plan from one whose records were read,
  * look at max_k and nexpvals.
  */
-uint64_t midvokt_plan(uint64_t initial_k, uint64_t max_k, uint64_t nexpvals,
+uint64_t midvokt_plan(uint64_t initial_k, uint64_t max_k, uint64_t nexpvals, uint64_t ceiling,
                       const uint64_t *records, size_t records_len,
                       uint64_t *steps, size_t steps_len,
                       uint64_t *merges, size_t merges_len,
@@ -423,17 +435,19 @@ uint64_t midvokt_plan(uint64_t initial_k, uint64_t max_k, uint64_t nexpvals,
  * Returns MIDVOKT_PLANNED; or the number of the first refusal of planning, with its index; or
  * else MIDVOKT_REFUSED_LENGTHS where the file's buffer is too short.
  *
- *   initial_k, max_k, nexpvals, records and the seven outputs
+ *   initial_k, max_k, nexpvals, ceiling, records and the seven outputs
  *               as midvokt_plan takes and fills them
  *   file        where the file goes; MIDVOKT_FILE_BYTES(n) bytes are enough for n records,
  *               and fewer may be. The bytes behind the file are zero
  *   result      the refused record and the file's length in bytes; of any length
  *
  * The file is the first so many bytes of the buffer: a trailer stands at the end of a file, so
- * that the bytes behind must not be kept with it. After any refusal all seven outputs and all
+ * that the bytes behind must not be kept with it. The file does not hold the ceiling: a plan has
+ * the same file at each ceiling that it is given at, and its sizes tell which controllers hold it,
+ * those whose ceiling is above every one of them. After any refusal all seven outputs and all
  * bytes of the buffer are zero.
  */
-uint64_t midvokt_store(uint64_t initial_k, uint64_t max_k, uint64_t nexpvals,
+uint64_t midvokt_store(uint64_t initial_k, uint64_t max_k, uint64_t nexpvals, uint64_t ceiling,
                        const uint64_t *records, size_t records_len,
                        uint64_t *steps, size_t steps_len,
                        uint64_t *merges, size_t merges_len,

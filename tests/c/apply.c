@@ -55,8 +55,9 @@ static const uint64_t *planned(uint64_t width, const uint64_t *record)
 {
     static uint64_t steps[2], merges[513], sizes[512], rotations[21], promotions[1], measurements[19];
     static uint64_t groups[1024], result[MIDVOKT_RESULT_WORDS];
-    uint64_t number = midvokt_plan(width, 8, 0, record, 8, steps, 2, merges, 513, sizes, 512, rotations, 21, promotions, 1,
-                                   measurements, 19, groups, 1024, result, MIDVOKT_RESULT_WORDS);
+    uint64_t number = midvokt_plan(width, 8, 0, MIDVOKT_LARGEST_CEILING, record, 8, steps, 2, merges, 513, sizes, 512,
+                                   rotations, 21, promotions, 1, measurements, 19, groups, 1024, result,
+                                   MIDVOKT_RESULT_WORDS);
     if (number != MIDVOKT_PLANNED)
         printf("refused %" PRIu64 "\n", number);
     return steps[MIDVOKT_STEP_KIND] == MIDVOKT_STEP_ROTATION ? rotations : measurements;

@@ -1,8 +1,8 @@
 /*
  * Plans a small circuit through the C interface and prints the plan: three coordinates, a
  * rotation with x = 5, then a measurement with z = 6 and pivot 2. Then the works as whole
- * numbers, of programs that differ in what is given of them, and the small circuit with a max_k
- * that is refused. `check` compares what is printed with plan.expected. C99 and C++11.
+ * numbers, of programs that differ in what is given of them; a rotation of nine coordinates under
+ * several ceilings; and the small circuit with a max_k that is refused. `check` compares what is printed with plan.expected. C99 and C++11.
  */
 #include <inttypes.h>
 #include <stdio.h>
@@ -32,6 +32,14 @@ static const uint64_t ignored[MIDVOKT_RECORD_WORDS] = {
     MIDVOKT_KIND_ROTATION, 0, 0, 0, 0, 0, 0, ONE,
 };
 
+/* A rotation that joins nine of ten coordinates. */
+static const uint64_t nine[MIDVOKT_RECORD_WORDS] = {
+    MIDVOKT_KIND_ROTATION, 10, 0x1ff, 0, 0, 0, 0, ONE,
+};
+
+/* What the controller holds. */
+static uint64_t ceiling = MIDVOKT_LARGEST_CEILING;
+
 /* Just long enough for two records. */
 static uint64_t steps[MIDVOKT_STEPS_WORDS(RECORDS)];
 static uint64_t merges[MIDVOKT_MERGES_WORDS(RECORDS)];
@@ -50,9 +58,9 @@ static uint64_t plan_into(uint64_t initial_k, uint64_t max_k, const uint64_t *wo
                           size_t result_len)
 {
     memset(result, 0x5a, sizeof result);
-    return midvokt_plan(initial_k, max_k, 0, words, count, LENT(steps), LENT(merges), LENT(sizes),
-                        LENT(rotations), LENT(promotions), LENT(measurements), LENT(groups),
-                        result, result_len);
+    return midvokt_plan(initial_k, max_k, 0, ceiling, words, count, LENT(steps), LENT(merges),
+                        LENT(sizes), LENT(rotations), LENT(promotions), LENT(measurements),
+                        LENT(groups), result, result_len);
 }
 
 /* Plans the circuit with this max_k. */
@@ -249,6 +257,33 @@ static int rest_is_zero(void)
     return 1;
 }
 
+/* Plans the nine under a ceiling, prints the number and the longest size, and tells whether the
+ * number is the one that is wanted. */
+static int try_ceiling(uint64_t held, uint64_t max_k, uint64_t wanted)
+{
+    uint64_t number;
+    ceiling = held;
+    number = plan_into(10, max_k, LENT(nine), LENGTH(result));
+    ceiling = MIDVOKT_LARGEST_CEILING;
+    printf("ceiling %" PRIu64 ", max_k %" PRIu64 ": number %" PRIu64 ", index %" PRIu64
+           ", longest %" PRIu64 "\n",
+           held, max_k, number, result[MIDVOKT_RESULT_INDEX], sizes[0]);
+    return number == wanted && (number == MIDVOKT_PLANNED || rest_is_zero());
+}
+
+/* The nine under ceilings at their limits. */
+static int try_ceilings(void)
+{
+    int right = try_ceiling(0, 8, MIDVOKT_REFUSED_CEILING);
+    right &= try_ceiling(63, 63, MIDVOKT_REFUSED_CEILING);
+    right &= try_ceiling(UINT64_MAX, 7, MIDVOKT_REFUSED_CEILING);
+    right &= try_ceiling(9, 9, MIDVOKT_REFUSED_MAX_K);
+    right &= try_ceiling(9, 8, MIDVOKT_REFUSED_COMPONENT_SIZE);
+    right &= try_ceiling(10, 8, MIDVOKT_PLANNED);
+    right &= try_ceiling(MIDVOKT_LARGEST_CEILING, 8, MIDVOKT_PLANNED);
+    return right;
+}
+
 int main(void)
 {
     uint64_t record;
@@ -270,6 +305,7 @@ int main(void)
     right &= try_works("a global phase", 0, 8, LENT(ignored));
     right &= try_works("unread", UINT64_MAX, 7, LENT(promotion));
     right &= nine_are_the_same();
+    right &= try_ceilings();
     number = plan(62);
     printf("max_k 62: number %" PRIu64 ", index %" PRIu64 "\n", number, result[MIDVOKT_RESULT_INDEX]);
     print_words("  words 9 to 13:", result + MIDVOKT_RESULT_WHOLE_MARK, 5);

@@ -44,16 +44,18 @@ static uint64_t initial_k, max_k, number;
 /* The calls, on the painted stack. */
 static void plan(void)
 {
-    number = midvokt_plan(initial_k, max_k, 0, records, used * MIDVOKT_RECORD_WORDS, LENT(steps),
-                          LENT(merges), LENT(sizes), LENT(rotations), LENT(promotions),
-                          LENT(measurements), LENT(groups), LENT(result));
+    number = midvokt_plan(initial_k, max_k, 0, MIDVOKT_LARGEST_CEILING, records,
+                          used * MIDVOKT_RECORD_WORDS, LENT(steps), LENT(merges), LENT(sizes),
+                          LENT(rotations), LENT(promotions), LENT(measurements), LENT(groups),
+                          LENT(result));
 }
 
 static void store(void)
 {
-    number = midvokt_store(initial_k, max_k, 0, records, used * MIDVOKT_RECORD_WORDS, LENT(steps),
-                           LENT(merges), LENT(sizes), LENT(rotations), LENT(promotions),
-                           LENT(measurements), LENT(groups), LENT(file), LENT(result));
+    number = midvokt_store(initial_k, max_k, 0, MIDVOKT_LARGEST_CEILING, records,
+                           used * MIDVOKT_RECORD_WORDS, LENT(steps), LENT(merges), LENT(sizes),
+                           LENT(rotations), LENT(promotions), LENT(measurements), LENT(groups),
+                           LENT(file), LENT(result));
     file_len = (size_t)result[MIDVOKT_STORE_RESULT_BYTES];
 }
 

@@ -72,15 +72,19 @@ static void make_noise(void)
     memset(result, 0x5a, sizeof result);
 }
 
+/* What the controller holds. */
+static uint64_t ceiling = MIDVOKT_LARGEST_CEILING;
+
 /* Plans so many records from so many coordinates and stores the plan in so many bytes. */
 static uint64_t store(uint64_t initial_k, uint64_t max_k, size_t count, uint8_t *bytes,
                       size_t bytes_len, size_t result_len)
 {
     make_noise();
     memset(bytes, 0x5a, bytes_len);
-    return midvokt_store(initial_k, max_k, 0, records, count * MIDVOKT_RECORD_WORDS, LENT(steps),
-                         LENT(merges), LENT(sizes), LENT(rotations), LENT(promotions),
-                         LENT(measurements), LENT(groups), bytes, bytes_len, result, result_len);
+    return midvokt_store(initial_k, max_k, 0, ceiling, records, count * MIDVOKT_RECORD_WORDS,
+                         LENT(steps), LENT(merges), LENT(sizes), LENT(rotations),
+                         LENT(promotions), LENT(measurements), LENT(groups), bytes, bytes_len,
+                         result, result_len);
 }
 
 /* Loads so many bytes; one output, by its number, is as long as is said. */
@@ -159,8 +163,8 @@ static int is_as_planned(uint64_t initial_k, uint64_t max_k, size_t count)
 {
     uint64_t fields[MIDVOKT_RESULT_WORDS];
     size_t section;
-    if (midvokt_plan(initial_k, max_k, 0, records, count * MIDVOKT_RECORD_WORDS, LENT(steps),
-                     LENT(merges), LENT(sizes), LENT(rotations), LENT(promotions),
+    if (midvokt_plan(initial_k, max_k, 0, ceiling, records, count * MIDVOKT_RECORD_WORDS,
+                     LENT(steps), LENT(merges), LENT(sizes), LENT(rotations), LENT(promotions),
                      LENT(measurements), LENT(groups), LENT(fields)) != MIDVOKT_PLANNED)
         return 0;
     for (section = 0; section < SECTIONS; section++) {
@@ -227,6 +231,17 @@ static int just_enough(size_t length)
     holds &= number == MIDVOKT_PLANNED && is_as_planned(3, 8, RECORDS);
     number = store(3, 8, RECORDS, odd, length - 1, MIDVOKT_STORE_RESULT_WORDS);
     return holds && number == MIDVOKT_REFUSED_LENGTHS;
+}
+
+/* Whether the file is byte for byte the same under another ceiling. */
+static int file_is_same_under(uint64_t other)
+{
+    static uint8_t again[sizeof file];
+    uint64_t number = store(3, 8, RECORDS, LENT(file), LENGTH(result));
+    ceiling = other;
+    number += store(3, 8, RECORDS, LENT(again), LENGTH(result));
+    ceiling = MIDVOKT_LARGEST_CEILING;
+    return number == MIDVOKT_PLANNED && memcmp(again, file, sizeof file) == 0;
 }
 
 /* Prints a refusal of storing; all that the call writes has to be zero. */
@@ -359,5 +374,10 @@ int main(void)
     refuse_store("store in one byte less", 3, 8, length - 1);
     refuse_store("store in nothing", 3, 8, 0);
     refuse_store("store with another width in nothing", 2, 8, 0);
+    tell("the ceiling is not in the file", file_is_same_under(9));
+    ceiling = 8;
+    refuse_store("store with max_k at the ceiling", 3, 8, sizeof file);
+    ceiling = 63;
+    refuse_store("store with a ceiling of 63 in nothing", 3, 8, 0);
     return is_right ? 0 : 1;
 }

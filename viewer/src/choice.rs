@@ -152,7 +152,7 @@ impl Choice {
 #[cfg(test)]
 mod tests_of_choice {
     use super::*;
-    use midvokt::{Record, Refusal};
+    use midvokt::{Record, Refusal, LARGEST_CEILING};
 
     /// What a file keeps of a plan.
     fn plan(head: &Head, records: &[Record]) -> Result<StoredPlan, Refusal> {
@@ -165,6 +165,7 @@ mod tests_of_choice {
             initial_k,
             max_k,
             nexpvals,
+            ceiling: LARGEST_CEILING,
         }
     }
 

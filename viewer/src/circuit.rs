@@ -1,16 +1,16 @@
 //! Reads a circuit file: the head's lines, then one line a record. Every bad line is told,
 //! with its place and what was expected there.
 
-use midvokt::{ActiveMeasurement, Head, Record, Rotation};
+use midvokt::{ActiveMeasurement, Head, Record, Rotation, LARGEST_CEILING};
 
 use crate::angle;
 use crate::fields::Fields;
 use crate::line::{quoted, Fault, Line};
 use crate::pauli::{self, Pauli};
 
-const HEAD_WORDS: [&str; 3] = ["initial", "max", "expvals"];
-const FIRST_WORDS: &str = "initial, max, expvals, rotate, promote, measure, expect, record, \
-                           detector or dormant";
+const HEAD_WORDS: [&str; 4] = ["initial", "max", "expvals", "ceiling"];
+const FIRST_WORDS: &str = "initial, max, expvals, ceiling, rotate, promote, measure, expect, \
+                           record, detector or dormant";
 
 /// A record and where it stands in the file.
 #[derive(Clone, Debug, PartialEq)]
@@ -30,8 +30,8 @@ pub struct Placed {
 pub struct Circuit {
     /// What stands in front of the records.
     pub head: Head,
-    /// The lines of initial, max and expvals; 0 for one that is not given.
-    pub head_lines: [usize; 3],
+    /// The lines of initial, max, expvals and ceiling; 0 for one that is not given.
+    pub head_lines: [usize; 4],
     /// The records in their order.
     pub records: Vec<Placed>,
 }
@@ -45,13 +45,18 @@ impl Circuit {
         });
         after.fold(self.head.initial_k, u64::max)
     }
+
+    /// The ceiling, if the file gives one.
+    pub fn given_ceiling(&self) -> Option<u64> {
+        (self.head_lines[3] != 0).then_some(self.head.ceiling)
+    }
 }
 
 /// What has been read so far.
 #[derive(Default)]
 struct Reader {
-    /// Value and line of initial, max and expvals.
-    head: [Option<(u64, usize)>; 3],
+    /// Value and line of initial, max, expvals and ceiling.
+    head: [Option<(u64, usize)>; 4],
     /// The active coordinates; none where a bad line leaves them open.
     width: Option<u64>,
     /// The first line behind the head.
@@ -154,12 +159,13 @@ impl Reader {
         if !self.faults.is_empty() {
             return Err(self.faults);
         }
-        let value = |place: usize| self.head[place].map_or(0, |(value, _)| value);
+        let [initial, max, expvals, ceiling] = self.head.map(|given| given.map(|(value, _)| value));
         Ok(Circuit {
             head: Head {
-                initial_k: value(0),
-                max_k: value(1),
-                nexpvals: value(2),
+                initial_k: initial.unwrap_or(0),
+                max_k: max.unwrap_or(0),
+                nexpvals: expvals.unwrap_or(0),
+                ceiling: ceiling.unwrap_or(LARGEST_CEILING),
             },
             head_lines: self.head.map(|given| given.map_or(0, |(_, line)| line)),
             records: self.records,
@@ -323,7 +329,39 @@ mod tests {
         assert_eq!(records[7].encode(), [4, 2, 0, 2, 0, 0, 1, 0]);
         assert_eq!(circuit.records[4].line, 8);
         assert_eq!(circuit.widest(), 3);
-        assert_eq!(circuit.head_lines, [1, 2, 0]);
+        assert_eq!(circuit.head_lines, [1, 2, 0, 0]);
+    }
+
+    #[test]
+    fn the_ceiling_is_the_largest_where_none_is_given() {
+        let circuit = good("initial 2\nmax 8\npromote");
+        assert_eq!((circuit.head.ceiling, circuit.given_ceiling()), (62, None));
+        let circuit = good("ceiling 62 # given\ninitial 2\nmax 8");
+        assert_eq!(circuit.given_ceiling(), Some(62));
+        for (text, ceiling) in [("0", 0), ("0x20", 32), ("18446744073709551615", u64::MAX)] {
+            let circuit = good(&format!("initial 2\nmax 8\n\nceiling {text}\nrecord"));
+            assert_eq!(circuit.given_ceiling(), Some(ceiling));
+            assert_eq!(circuit.head_lines, [1, 2, 0, 4]);
+        }
+    }
+
+    #[test]
+    fn a_bad_ceiling_is_told_as_its_neighbours_are() {
+        let bad = |lines: &str| bad(&format!("initial 2\nmax 8\n{lines}"));
+        assert_eq!(
+            bad("ceiling 9\nceiling 9"),
+            ["4:1: expected one line 'ceiling N', found a second one; the first is on line 3"]
+        );
+        assert_eq!(
+            bad("record\nceiling 9"),
+            ["4:1: expected 'ceiling' before the first record, on line 3, found it behind"]
+        );
+        for (text, found) in [("ceiling", "the end of the line"), ("ceiling -1", "'-1'")] {
+            let told = bad(text);
+            assert!(told[0].ends_with(&format!("expected a whole number, found {found}")));
+            assert_eq!(told.len(), 1, "{told:?}");
+        }
+        assert_eq!(bad("ceiling 9 9").len(), 1);
     }
 
     #[test]

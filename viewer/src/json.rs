@@ -89,6 +89,7 @@ fn head(head: &Head) -> String {
         ("initial_k", wide(head.initial_k)),
         ("max_k", wide(head.max_k)),
         ("nexpvals", wide(head.nexpvals)),
+        ("ceiling", wide(head.ceiling)),
     ])
 }
 
@@ -393,6 +394,21 @@ mod tests_of_json {
         assert_eq!(
             object(&vec![("a", float(-0.0)), ("b", optional::<u64>(None))]),
             "{\"a\": -0.0, \"b\": null}"
+        );
+    }
+
+    #[test]
+    fn the_head_has_the_ceiling_last() {
+        let all = Head {
+            initial_k: 3,
+            max_k: 8,
+            nexpvals: 0,
+            ceiling: u64::MAX,
+        };
+        assert_eq!(
+            head(&all),
+            "{\"initial_k\": \"3\", \"max_k\": \"8\", \"nexpvals\": \"0\", \
+             \"ceiling\": \"18446744073709551615\"}"
         );
     }
 

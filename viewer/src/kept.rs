@@ -153,6 +153,17 @@ mod tests {
     }
 
     #[test]
+    fn the_ceiling_of_a_stored_plan_is_open() {
+        let text = "initial 3\nmax 8\nceiling 9\nrotate X_X 0.5";
+        let circuit = circuit::parse(text.as_bytes()).unwrap();
+        let (is_plan, shown) = shown(&planning::stored(&circuit).unwrap());
+        assert!(is_plan && !shown.contains("\"ceiling\""), "{shown}");
+        let wanted = "  ceiling      not stored; the largest component has 2 members\n";
+        assert_eq!(shown.matches("ceiling").count(), 1);
+        assert!(shown.contains(wanted), "{shown}");
+    }
+
+    #[test]
     fn every_damaged_word_is_shown_or_told() {
         let good = file();
         let mut plans = 0;

@@ -256,7 +256,7 @@ impl Replay {
 #[cfg(test)]
 mod tests {
     use super::*;
-    use midvokt::{plan, ActiveComponentPlan, Head, Record};
+    use midvokt::{plan, ActiveComponentPlan, Head, Record, LARGEST_CEILING};
 
     /// Three coordinates: two joins, a promotion, and measurements until one member is left.
     fn planned() -> ActiveComponentPlan {
@@ -264,6 +264,7 @@ mod tests {
             initial_k: 3,
             max_k: 8,
             nexpvals: 0,
+            ceiling: LARGEST_CEILING,
         };
         let records = [
             Record::rotation(3, 5, 0, 0, 0.0),
@@ -348,6 +349,7 @@ mod tests {
             initial_k: u64::MAX,
             max_k: 7,
             nexpvals: 0,
+            ceiling: LARGEST_CEILING,
         };
         let plan = StoredPlan::from(plan(&head, &[]).unwrap());
         assert_eq!(Replay::of(&plan), Ok(Replay::default()));

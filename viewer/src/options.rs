@@ -21,6 +21,8 @@ CIRCUIT is a file, or - for standard input. One record a line; # is a comment.
   max N                  the dense peak is 2^N (needed, comes first; no default,
                          since it decides the choice; below 8 nothing is read)
   expvals N              expectation values (0 if not given, else nothing read)
+  ceiling N              max, and the members of each component, are below N, as
+                         the controller needs it (1 to 62; 62 if not given)
   rotate PAULI ANGLE     exp(-i ANGLE PAULI); sin=S, cos=C in place of ANGLE's
   promote                a new active coordinate, behind the last position
   measure PAULI pivot N  the coordinate at position N leaves
@@ -39,9 +41,10 @@ otherwise; works, and how many times cheaper the split is; dimensions; a line a
 record; the components' lives as lanes; the final groups.
   --json        the plan, or the refusal, for programs instead (docs/JSON.md)
   --svg FILE    the lanes as a picture besides
-  --words FILE  head (3 words) and records (8 each) besides: 64 bits each,
-                little-endian
-  --store FILE  the plan as a file besides, to be kept (include/midvokt.h)
+  --words FILE  head (4 words, ceiling last) and records (8 each) besides: 64
+                bits each, little-endian
+  --store FILE  the plan as a file besides, to be kept (include/midvokt.h); the
+                ceiling is not stored
   --stored FILE shows such a file, or by - standard input; with no circuit, no
                 --words and no --store
   --ascii       lanes without box characters

@@ -3,7 +3,9 @@
 
 use std::mem;
 
-use midvokt::{ActivePauliAction, Record, Refusal, StoredPlan, WholeWorks};
+use midvokt::{
+    ActivePauliAction, Head, Reason, Record, Refusal, StoredPlan, WholeWorks, LARGEST_CEILING,
+};
 
 use crate::choice::Choice;
 use crate::circuit::Circuit;
@@ -44,6 +46,34 @@ fn records(circuit: &Circuit) -> Vec<Record> {
 /// Plans a circuit, and gives the plan's file.
 pub fn stored(circuit: &Circuit) -> Result<Vec<u8>, Refusal> {
     midvokt::store(&circuit.head, &records(circuit))
+}
+
+/// The rotation by the angle 0 about the Pauli of a record, which joins the same components.
+fn turn(record: &Record) -> Option<Record> {
+    let (width, x, z, phase) = match *record {
+        Record::Rotation(r) => (r.width, r.x, r.z, r.phase),
+        Record::ActiveMeasurement(m) => (m.width, m.x, m.z, m.phase),
+        _ => return None,
+    };
+    Some(Record::rotation(width, x, z, phase, 0.0))
+}
+
+/// How many members a refused join makes: as many as its row has at the largest ceiling, or, where
+/// that refuses it too, the 62 that a record may be wide.
+pub fn joined(circuit: &Circuit, record: usize) -> Option<u64> {
+    let mut records = records(circuit);
+    let last = turn(records.get(record)?)?;
+    records.truncate(record);
+    records.push(last);
+    let head = Head {
+        ceiling: LARGEST_CEILING,
+        ..circuit.head
+    };
+    match midvokt::plan(&head, &records) {
+        Ok(plan) => Some(plan.rotations.last()?.kernel.action.nqubits as u64),
+        Err(refusal) if refusal.reason == Reason::ComponentSize => Some(LARGEST_CEILING),
+        Err(_) => None,
+    }
 }
 
 impl<'a> View<'a> {
@@ -140,5 +170,49 @@ mod tests {
             .map(|event| view.local_letters(event))
             .collect();
         assert_eq!(letters, ["-XY", "_ZZ", ""]);
+    }
+
+    /// What the library says of a circuit, and how many members its refused record joins.
+    fn refused(head: &str, records: &str) -> (Refusal, Option<u64>) {
+        let text = format!("max 8\n{head}\n{records}");
+        let circuit = circuit::parse(text.as_bytes()).unwrap();
+        let refusal = View::of("-", &circuit).err().unwrap();
+        (refusal, joined(&circuit, refusal.index))
+    }
+
+    #[test]
+    fn a_refused_join_is_counted() {
+        let all = "rotate x=0x3fffffffffffffff 1";
+        let cases = [
+            ("initial 9\nceiling 9", "rotate XXXXXXXXX 1", 0, 9),
+            (
+                "initial 40\nceiling 9",
+                "rotate x=0xff 1\nrotate x=0xffff0 1",
+                1,
+                20,
+            ),
+            (
+                "initial 12\nceiling 9",
+                "promote\nmeasure z=0x1fff pivot 99",
+                1,
+                13,
+            ),
+            ("initial 62\nceiling 9", all, 0, 62),
+            ("initial 62", all, 0, 62),
+            (
+                "initial 62\nceiling 61",
+                "rotate x=0x1fffffffffffffff 1",
+                0,
+                61,
+            ),
+        ];
+        for (head, records, index, members) in cases {
+            let (refusal, found) = refused(head, records);
+            assert_eq!(
+                (refusal.reason, refusal.index),
+                (Reason::ComponentSize, index)
+            );
+            assert_eq!(found, Some(members), "{head}: {records}");
+        }
     }
 }

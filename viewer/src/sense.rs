@@ -5,14 +5,15 @@
 
 use midvokt::{
     ActiveComponentMeasurementStep, ActiveComponentRotationStep, ActiveComponentStepKind as Kind,
-    ActiveComponentStepRef, ActivePauliAction, Complex, StoredPlan, MOST_RECORDS,
+    ActiveComponentStepRef, ActivePauliAction, Complex, StoredPlan, LARGEST_CEILING, MOST_RECORDS,
 };
 
 use crate::figures;
 
-/// The most components that a program can make, and the most members that one can have.
+/// The most components that a program can make, and the most members that one can have: below the
+/// largest ceiling, since a stored plan does not hold its own.
 const MOST_COMPONENTS: usize = 512;
-const MOST_MEMBERS: usize = 61;
+const MOST_MEMBERS: usize = LARGEST_CEILING as usize - 1;
 
 const NO_ROW: &str = "its row is not there";
 
@@ -267,6 +268,7 @@ mod tests {
             initial_k: 3,
             max_k: 8,
             nexpvals: 0,
+            ceiling: LARGEST_CEILING,
         };
         let records = [
             Record::rotation(3, 5, 0, 0, 0.5),

@@ -4,7 +4,9 @@
 
 use std::fmt::Write;
 
-use midvokt::{ActiveComponentStepKind as Kind, Reason, Record, Refusal, MOST_RECORDS};
+use midvokt::{
+    ActiveComponentStepKind as Kind, Reason, Record, Refusal, LARGEST_CEILING, MOST_RECORDS,
+};
 
 use crate::choice::{Choice, Test};
 use crate::circuit::{Circuit, Placed};
@@ -13,7 +15,7 @@ use crate::lanes::{self, Style};
 use crate::line::visible;
 use crate::lives::{Deed, Event};
 use crate::notes;
-use crate::planning::View;
+use crate::planning::{self, View};
 use crate::works::Works;
 
 /// The most characters of a record's own line, and of a local Pauli, that the table shows.
@@ -33,8 +35,12 @@ fn heading(name: &str, circuit: &Circuit, columns: usize) -> String {
         0 => String::new(),
         number => format!(", expvals {number}"),
     };
+    let ceiling = match circuit.given_ceiling() {
+        None => String::new(),
+        Some(number) => format!(", ceiling {number}"),
+    };
     let size = format!(
-        "{} at the start, max {}{expvals}, {}",
+        "{} at the start, max {}{expvals}{ceiling}, {}",
         figures::count(head.initial_k, "coordinate", "coordinates"),
         head.max_k,
         figures::count(circuit.records.len() as u64, "record", "records")
@@ -163,6 +169,17 @@ fn origin(view: &View<'_>) -> String {
     format!(", from max; the widest register has {widest}")
 }
 
+/// What is said of the ceiling of a stored plan, which does not hold it.
+fn unstored_ceiling(view: &View<'_>, columns: usize) -> String {
+    let largest = view.plan.component_max_k.iter().max();
+    let members = match (&view.planned, largest) {
+        (None, Some(&largest)) => figures::count(largest as u64, "member", "members"),
+        _ => return String::new(),
+    };
+    let words = format!("not stored; the largest component has {members}");
+    figures::wrapped("  ceiling      ", &words, columns)
+}
+
 /// The dimensions; where no record is read, only what max gives.
 fn dimensions(view: &View<'_>, columns: usize) -> String {
     let plan = &view.plan;
@@ -173,9 +190,10 @@ fn dimensions(view: &View<'_>, columns: usize) -> String {
         return format!("Dimensions\n{dense}");
     }
     format!(
-        "Dimensions\n  peak         {}\n  allocated    {}\n{dense}",
+        "Dimensions\n  peak         {}\n  allocated    {}\n{dense}{}",
         figures::whole(plan.component_peak_live_dimension as u64),
         figures::whole(plan.component_allocated_dimension as u64),
+        unstored_ceiling(view, columns)
     )
 }
 
@@ -328,14 +346,41 @@ fn head_line(circuit: &Circuit, refusal: &Refusal) -> Option<usize> {
     match refusal.reason {
         Reason::MaxK => Some(circuit.head_lines[1]),
         Reason::InitialK => Some(circuit.head_lines[0]),
+        Reason::Ceiling => Some(circuit.head_lines[3]),
         _ => None,
     }
+}
+
+/// Which ceiling a circuit has, and that it is the largest one where the file gives none.
+fn ceiling(circuit: &Circuit) -> String {
+    match circuit.given_ceiling() {
+        Some(number) => format!("the ceiling is {}", figures::whole(number)),
+        None => format!("the ceiling is {LARGEST_CEILING} where none is given"),
+    }
+}
+
+/// Why a join is refused, with as many members as it makes.
+fn too_many(circuit: &Circuit, refusal: &Refusal) -> String {
+    let members = match planning::joined(circuit, refusal.index) {
+        Some(number) => format!("{} members", figures::whole(number)),
+        None => "too many members".to_owned(),
+    };
+    let ceiling = ceiling(circuit);
+    format!("the join makes a component of {members}, and {ceiling}: there have to be fewer")
 }
 
 /// Why a circuit is refused, in the words of its file.
 pub fn reason(circuit: &Circuit, refusal: &Refusal) -> String {
     let words = match refusal.reason {
-        Reason::MaxK => "max is 62 or more",
+        Reason::MaxK => {
+            let (max, ceiling) = (figures::whole(circuit.head.max_k), ceiling(circuit));
+            return format!("max is {max}, and {ceiling}: max has to be below it");
+        }
+        Reason::Ceiling => {
+            let ceiling = ceiling(circuit);
+            return format!("{ceiling}, and has to be 1 to {LARGEST_CEILING}");
+        }
+        Reason::ComponentSize => return too_many(circuit, refusal),
         Reason::RecordWords => {
             let (found, most) = (circuit.records.len() as u64, MOST_RECORDS as u64);
             let (found, most) = (figures::whole(found), figures::whole(most));
@@ -425,7 +470,35 @@ mod tests {
     #[test]
     fn a_refusal_of_the_head_names_its_line() {
         let found = said("initial 1\nmax 62\n", 80);
-        let wanted = "refusal 1 of the head, on line 2\n  max is 62 or more\n";
+        let wanted = "refusal 1 of the head, on line 2\n  max is 62, and the ceiling is 62 where \
+                      none is given: max has to be below it\n";
+        assert!(found.contains(wanted), "{found}");
+        let found = said("ceiling 12\ninitial 1\nmax 12\n", 80);
+        let wanted =
+            "refusal 1 of the head, on line 3\n  max is 12, and the ceiling is 12: max has \
+                      to be below it\n";
+        assert!(found.contains(wanted), "{found}");
+        for (number, shown) in [
+            (0, "0"),
+            (70, "70"),
+            (u64::MAX, "18,446,744,073,709,551,615"),
+        ] {
+            let found = said(&format!("max 99\ninitial 1\n\nceiling {number}\n"), 80);
+            let wanted = format!(
+                "refusal 24 of the head, on line 4\n  the ceiling is {shown}, and has to be 1 to 62\n"
+            );
+            assert!(found.contains(&wanted), "{found}");
+        }
+    }
+
+    #[test]
+    fn a_refused_join_tells_members_and_ceiling() {
+        let found = said("initial 12\nmax 8\nceiling 9\nrotate x=0x3ff 1", 200);
+        assert!(found.contains("at the start, max 8, ceiling 9, 1 record\n"));
+        let wanted = "a component of 10 members, and the ceiling is 9: there have to be fewer\n";
+        assert!(found.contains(wanted), "{found}");
+        let found = said("initial 62\nmax 8\nrotate x=0x3fffffffffffffff 1", 200);
+        let wanted = "a component of 62 members, and the ceiling is 62 where none is given: there";
         assert!(found.contains(wanted), "{found}");
     }
 

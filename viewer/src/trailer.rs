@@ -123,7 +123,7 @@ pub fn why(bytes: &[u8]) -> Option<(u64, String)> {
 #[cfg(test)]
 mod tests {
     use super::*;
-    use midvokt::{load, store, Head, Record};
+    use midvokt::{load, store, Head, Record, LARGEST_CEILING};
 
     /// A file with rows of every kind, as words.
     fn file() -> Vec<u64> {
@@ -131,6 +131,7 @@ mod tests {
             initial_k: 3,
             max_k: 8,
             nexpvals: 0,
+            ceiling: LARGEST_CEILING,
         };
         let records = [
             Record::rotation(3, 5, 0, 0, 0.5),

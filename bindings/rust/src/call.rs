@@ -13,22 +13,41 @@ use crate::works::WholeWorks;
 /// four numbers of the whole works.
 pub const RESULT_WORDS: usize = 14;
 
+/// The largest ceiling that a head may have, which is that of the published Rust.
+pub const LARGEST_CEILING: u64 = 62;
+
 /// What planning knows of a program beside its records.
-#[derive(Clone, Copy, Debug, Default, PartialEq, Eq)]
+#[derive(Clone, Copy, Debug, PartialEq, Eq)]
 pub struct Head {
     /// The number of active coordinates at the start.
     pub initial_k: u64,
     /// The greatest number of active coordinates, which gives the dense peak; it is not held to
     /// the records. Below 8 no record is read and the plan is empty: give 8 to have the rows of a
-    /// small circuit. 62 or more is refused.
+    /// small circuit. The ceiling or more is refused.
     pub max_k: u64,
     /// The number of expectation values; other than 0, no record is read and the plan is empty.
     pub nexpvals: u64,
+    /// The controller holds components of fewer coordinates than this. It is 1 to 62
+    /// ([`LARGEST_CEILING`]); any other is refused with number 24, before all else. The circuits of
+    /// document 01 have 62. Below 9 no record is read, since `max_k` then has to be below 8.
+    pub ceiling: u64,
+}
+
+impl Default for Head {
+    /// No coordinate and no expectation value, at the largest ceiling.
+    fn default() -> Self {
+        Self {
+            initial_k: 0,
+            max_k: 0,
+            nexpvals: 0,
+            ceiling: LARGEST_CEILING,
+        }
+    }
 }
 
 impl Head {
-    /// Whether planning accepts without reading records or buffers: `max_k` is below 8, or
-    /// `nexpvals` is not 0.
+    /// Whether planning reads neither records nor buffers: `max_k` is below 8, or `nexpvals` is
+    /// not 0. Then only the ceiling and `max_k` can be refused.
     pub fn leaves_unread(&self) -> bool {
         self.max_k < 8 || self.nexpvals != 0
     }
@@ -223,6 +242,7 @@ extern "C" {
         initial_k: u64,
         max_k: u64,
         nexpvals: u64,
+        ceiling: u64,
         records: *const u64,
         records_len: usize,
         steps: *mut u64,
@@ -260,6 +280,7 @@ pub fn plan_words(
             head.initial_k,
             head.max_k,
             head.nexpvals,
+            head.ceiling,
             records.as_ptr(),
             records.len(),
             buffers.steps.as_mut_ptr(),
@@ -300,7 +321,14 @@ pub fn plan_into(
 
 #[cfg(test)]
 mod tests {
-    use super::Lengths;
+    use super::{Head, Lengths, LARGEST_CEILING};
+
+    #[test]
+    fn a_default_head_has_the_largest_ceiling() {
+        let head = Head::default();
+        assert_eq!((head.initial_k, head.max_k, head.nexpvals), (0, 0, 0));
+        assert_eq!((head.ceiling, LARGEST_CEILING), (62, 62));
+    }
 
     #[test]
     fn lengths_grow_with_the_records() {

@@ -15,9 +15,9 @@
 //!
 //! ```
 //! # #[cfg(feature = "std")] {
-//! use midvokt::{plan, Head, Reason, Record};
+//! use midvokt::{plan, Head, Reason, Record, LARGEST_CEILING};
 //!
-//! let head = Head { initial_k: 3, max_k: 8, nexpvals: 0 };
+//! let head = Head { initial_k: 3, max_k: 8, nexpvals: 0, ceiling: LARGEST_CEILING };
 //! let records = [Record::rotation(3, 0b101, 0, 0, 0.0)];
 //! let plan = plan(&head, &records).unwrap();
 //! assert_eq!(plan.merge_components, [0, 2]);
@@ -45,6 +45,28 @@
 //! measurement takes a member away, those behind it move down. A record that touches none concerns
 //! the component of position 0; a rotation where no coordinate is active is a global phase.
 //!
+//! # The ceiling
+//!
+//! A controller holds registers of fewer coordinates than its ceiling, which is 1 to 62 and stands in
+//! the head ([`Head::ceiling`]). A `max_k` of the ceiling or more is refused ([`Reason::MaxK`]), and
+//! so is a join that makes a component of as many members or more ([`Reason::ComponentSize`]). What
+//! is planned is the plan of the largest ceiling, word for word. A record's width may be up to 62
+//! whatever the ceiling is. [`LARGEST_CEILING`] is that of the published Rust, and of
+//! `Head::default()`.
+//!
+//! ```
+//! # #[cfg(feature = "std")] {
+//! use midvokt::{plan, Head, Reason, Record, LARGEST_CEILING};
+//!
+//! let large = Head { initial_k: 20, max_k: 8, nexpvals: 0, ceiling: LARGEST_CEILING };
+//! let small = Head { ceiling: 9, ..large };
+//! let join = |members: u32| [Record::rotation(20, (1 << members) - 1, 0, 0, 0.25)];
+//! assert_eq!(plan(&small, &join(8)), plan(&large, &join(8)));
+//! assert_eq!(plan(&small, &join(9)).unwrap_err().reason, Reason::ComponentSize);
+//! assert!(plan(&large, &join(9)).is_ok());
+//! # }
+//! ```
+//!
 //! # Paulis and angles
 //!
 //! A record's Pauli is P = i^phase X^x Z^z, X in front of Z at each position: a bit in `x` alone
@@ -68,9 +90,9 @@
 //!
 //! ```
 //! # #[cfg(feature = "std")] {
-//! use midvokt::{plan, Complex, Head, Record};
+//! use midvokt::{plan, Complex, Head, Record, LARGEST_CEILING};
 //!
-//! let head = Head { initial_k: 1, max_k: 8, nexpvals: 0 };
+//! let head = Head { initial_k: 1, max_k: 8, nexpvals: 0, ceiling: LARGEST_CEILING };
 //! let theta = 0.5;
 //! // Y0, turned by theta: x = 1, z = 1, phase = 1.
 //! let plan = plan(&head, &[Record::rotation(1, 1, 1, 1, theta / 2.0)]).unwrap();
@@ -98,9 +120,9 @@
 //!
 //! ```
 //! # #[cfg(feature = "std")] {
-//! use midvokt::{plan, Head, Record, WholeWorks};
+//! use midvokt::{plan, Head, Record, WholeWorks, LARGEST_CEILING};
 //!
-//! let head = Head { initial_k: 11, max_k: 11, nexpvals: 0 };
+//! let head = Head { initial_k: 11, max_k: 11, nexpvals: 0, ceiling: LARGEST_CEILING };
 //! let records = [0b11, 0b1100].map(|x| Record::rotation(11, x, 0, 0, 0.25));
 //! let plan = plan(&head, &records).unwrap();
 //! match plan.whole_works {
@@ -118,8 +140,10 @@
 //! # Stored plans
 //!
 //! A stored plan is a run of bytes, which the caller keeps: the scalar fields, the steps, the rows
-//! and their sources. Its groups and its whole works are not stored. One plan has one file, and what
-//! was stored is loaded again word for word; `include/midvokt.h` says which word of a file is which.
+//! and their sources. Its groups and its whole works are not stored, nor is the ceiling that it was
+//! planned with; `component_max_k` says how many members its components have at most. One plan has
+//! one file, and what was stored is loaded again word for word; `include/midvokt.h` says which word
+//! of a file is which.
 //!
 //! Loading looks at a file's length, at its trailer and at `component_count`, and refuses it
 //! ([`Reason::File`], [`Reason::Sections`], [`Reason::Lengths`]) where these are wrong. All else comes
@@ -130,9 +154,9 @@
 //!
 //! ```
 //! # #[cfg(feature = "std")] {
-//! use midvokt::{load, plan, store, Head, Reason, Record, Stored, StoredPlan};
+//! use midvokt::{load, plan, store, Head, Reason, Record, Stored, StoredPlan, LARGEST_CEILING};
 //!
-//! let head = Head { initial_k: 3, max_k: 8, nexpvals: 0 };
+//! let head = Head { initial_k: 3, max_k: 8, nexpvals: 0, ceiling: LARGEST_CEILING };
 //! let records = [Record::rotation(3, 0b101, 0, 0, 0.25), Record::measurement(3, 0, 0b110, 2, 2)];
 //! let file = store(&head, &records).unwrap();
 //! let kept = StoredPlan::from(plan(&head, &records).unwrap());
@@ -166,7 +190,9 @@
 //! Without `alloc`:
 //!
 //! ```
-//! use midvokt::{plan_into, Buffers, Head, Lengths, Record, Rotation, RECORD_WORDS};
+//! use midvokt::{
+//!     plan_into, Buffers, Head, Lengths, Record, Rotation, LARGEST_CEILING, RECORD_WORDS,
+//! };
 //!
 //! const LENGTHS: Lengths = Lengths::for_records(2);
 //! let turn = Rotation { width: 3, x: 5, z: 0, phase: 0, angle: 0.0, sine: 0.0, cosine: 1.0 };
@@ -184,7 +210,7 @@
 //!     measurements: &mut [0; LENGTHS.measurements],
 //!     groups: &mut [0; LENGTHS.groups],
 //! };
-//! let head = Head { initial_k: 3, max_k: 8, nexpvals: 0 };
+//! let head = Head { initial_k: 3, max_k: 8, nexpvals: 0, ceiling: LARGEST_CEILING };
 //! let summary = plan_into(&head, &words, &mut buffers).unwrap();
 //! assert_eq!(summary.component_peak_live_dimension, 8);
 //! assert_eq!(buffers.measurement(0).unwrap().kernel.pivot, 1);
@@ -215,7 +241,9 @@ mod stored_plan;
 mod words;
 mod works;
 
-pub use call::{plan_into, plan_words, Buffers, Groups, Head, Lengths, Summary, RESULT_WORDS};
+pub use call::{
+    plan_into, plan_words, Buffers, Groups, Head, Lengths, Summary, LARGEST_CEILING, RESULT_WORDS,
+};
 #[cfg(not(feature = "num-complex"))]
 pub use complex::Complex;
 pub use kernels::{

@@ -7,7 +7,7 @@ use core::fmt;
 #[non_exhaustive]
 #[derive(Clone, Copy, Debug, PartialEq, Eq, Hash)]
 pub enum Reason {
-    /// Number 1: `max_k` is 62 or more.
+    /// Number 1: `max_k` is the ceiling or more.
     MaxK,
     /// Number 2: the record words are no multiple of 8, or more than 8,192.
     RecordWords,
@@ -33,7 +33,7 @@ pub enum Reason {
     MeasurementWidth,
     /// Number 13: a measurement where no coordinate is active.
     NothingActive,
-    /// Number 14: a join makes a component of 62 members.
+    /// Number 14: a join makes a component of as many members as the ceiling, or more.
     ComponentSize,
     /// Number 15: the pivot is not an active position.
     Pivot,
@@ -56,6 +56,8 @@ pub enum Reason {
     /// Number 23: the buffer for the file that is stored is too short; or a section of the file
     /// that is loaded has a count that no plan has, or is longer than its output.
     Lengths,
+    /// Number 24: the ceiling is not 1 to 62. It is refused before all else.
+    Ceiling,
     /// A number that this version of the crate has no name for.
     Unnamed(u64),
 }
@@ -87,6 +89,7 @@ impl Reason {
             Self::File => 21,
             Self::Sections => 22,
             Self::Lengths => 23,
+            Self::Ceiling => 24,
             Self::Unnamed(number) => number,
         }
     }
@@ -117,6 +120,7 @@ impl Reason {
             21 => Self::File,
             22 => Self::Sections,
             23 => Self::Lengths,
+            24 => Self::Ceiling,
             _ => Self::Unnamed(number),
         }
     }
@@ -124,7 +128,7 @@ impl Reason {
     /// A sentence in plain words.
     pub const fn sentence(self) -> &'static str {
         match self {
-            Self::MaxK => "max_k is 62 or more",
+            Self::MaxK => "max_k is the ceiling or more",
             Self::RecordWords => "the record words are no multiple of 8, or more than 8,192",
             Self::Buffers => "one of the seven buffers is too short for this many records",
             Self::InitialK => "initial_k is more than 512",
@@ -139,7 +143,9 @@ impl Reason {
                 "the measurement's width is not the number of active coordinates"
             }
             Self::NothingActive => "there is no active coordinate to measure",
-            Self::ComponentSize => "the join makes a component of 62 members",
+            Self::ComponentSize => {
+                "the join makes a component of as many members as the ceiling, or more"
+            }
             Self::Pivot => "the pivot is not an active position",
             Self::PivotComponent => "the pivot's coordinate is not in the measured component",
             Self::PivotX => "the measured x mask is not 0 and has no bit at the pivot",
@@ -153,13 +159,14 @@ impl Reason {
             Self::File => "the file's length, or the length or version word in it, is wrong",
             Self::Sections => "the file's sections do not follow each other up to its trailer",
             Self::Lengths => "a section has a count that no plan has, or a buffer is too short",
+            Self::Ceiling => "the ceiling is not 1 to 62",
             Self::Unnamed(_) => "the number has no name in this version",
         }
     }
 
     /// Whether it is about one record, and not about the head, the buffers or a file.
     pub const fn is_of_record(self) -> bool {
-        !matches!(self.number(), 0..=4 | 21..=23)
+        !matches!(self.number(), 0..=4 | 21..=24)
     }
 }
 
@@ -173,7 +180,7 @@ pub struct Refusal {
 }
 
 impl Refusal {
-    /// The reason's number, 1 to 23 for a reason that has a name.
+    /// The reason's number, 1 to 24 for a reason that has a name.
     pub const fn number(&self) -> u64 {
         self.reason.number()
     }
@@ -217,24 +224,24 @@ mod tests {
 
     #[test]
     fn every_number_has_its_own_reason_and_sentence() {
-        let reasons: Vec<_> = (1..=23).map(Reason::from_number).collect();
-        assert!(reasons.iter().map(|reason| reason.number()).eq(1..=23));
+        let reasons: Vec<_> = (1..=24).map(Reason::from_number).collect();
+        assert!(reasons.iter().map(|reason| reason.number()).eq(1..=24));
         let unnamed = |reason: &Reason| matches!(reason, Reason::Unnamed(_));
         assert!(!reasons.iter().any(unnamed));
         let sentences: HashSet<_> = reasons.iter().map(|reason| reason.sentence()).collect();
-        assert_eq!(sentences.len(), 23);
-        assert!(!sentences.contains(Reason::Unnamed(24).sentence()));
+        assert_eq!(sentences.len(), 24);
+        assert!(!sentences.contains(Reason::Unnamed(25).sentence()));
     }
 
     #[test]
     fn an_unknown_number_is_kept() {
-        for number in [0, 24, u64::MAX] {
+        for number in [0, 25, u64::MAX] {
             assert_eq!(Reason::from_number(number), Reason::Unnamed(number));
             assert_eq!(Reason::Unnamed(number).number(), number);
         }
         assert_eq!(
-            said(24),
-            "refusal 24 at record 7: the number has no name in this version"
+            said(25),
+            "refusal 25 at record 7: the number has no name in this version"
         );
     }
 
@@ -249,5 +256,7 @@ mod tests {
         let of_files = (21..=23).map(said).collect::<Vec<_>>();
         assert!(of_files.iter().all(|said| !said.contains("record 7")));
         assert!(of_files[0].starts_with("refusal 21: the file's length, or the length or "));
+        assert_eq!(said(1), "refusal 1: max_k is the ceiling or more");
+        assert_eq!(said(24), "refusal 24: the ceiling is not 1 to 62");
     }
 }

@@ -17,7 +17,9 @@ use crate::rows::{
 };
 use crate::stored::{file_bytes, load_into, store_into, Scalars, Sections, TRAILER_WORDS};
 
-/// What a file keeps of a plan: an [`ActiveComponentPlan`] without its groups and whole works.
+/// What a file keeps of a plan: an [`ActiveComponentPlan`] without its groups and whole works. It
+/// does not hold the ceiling that it was planned with; a controller holds its components where each
+/// size in `component_max_k` is below the controller's ceiling.
 #[derive(Clone, Debug, Default, PartialEq)]
 pub struct StoredPlan {
     /// Whether the split pays.

@@ -1,10 +1,11 @@
-//! The names and numbers that the crate has are those of the C header: the reasons, the length of
-//! the results, their words, the marks of the whole works and the words of a stored plan.
+//! The names and numbers that the crate has are those of the C header: the reasons, the largest
+//! ceiling, the length of the results, their words, the marks of the whole works and the words of a
+//! stored plan.
 
 use midvokt::{
     file_bytes, plan_into, plan_words, Buffers, Head, Lengths, Reason, Record, Scalars, Summary,
-    WholeWorks, FILE_VERSION, LOAD_RESULT_WORDS, RESULT_WORDS, SCALAR_WORDS, STORE_RESULT_WORDS,
-    TRAILER_WORDS,
+    WholeWorks, FILE_VERSION, LARGEST_CEILING, LOAD_RESULT_WORDS, RESULT_WORDS, SCALAR_WORDS,
+    STORE_RESULT_WORDS, TRAILER_WORDS,
 };
 
 const HEADER: &str = include_str!("../../../include/midvokt.h");
@@ -47,6 +48,7 @@ fn planned(initial_k: u64, promotions: usize) -> ([u64; RESULT_WORDS], Summary) 
         initial_k,
         max_k: 8,
         nexpvals: 0,
+        ceiling: LARGEST_CEILING,
     };
     let records = vec![Record::Promotion.encode(); promotions].concat();
     let lengths = Lengths::for_records(promotions).in_order();
@@ -65,7 +67,7 @@ fn the_reasons_have_the_names_of_the_header() {
         assert_eq!(format!("{reason:?}"), camel(name), "number {number}");
         numbers.push(number);
     }
-    assert!(numbers.into_iter().eq(1..=23));
+    assert!(numbers.into_iter().eq(1..=24));
 }
 
 #[test]
@@ -73,6 +75,12 @@ fn the_result_has_the_length_of_the_header() {
     assert!(HEADER.contains(&format!("#define MIDVOKT_RESULT_WORDS {RESULT_WORDS}\n")));
     let places = all("MIDVOKT_RESULT_").into_iter().map(|word| word.1);
     assert!(places.eq(0..RESULT_WORDS as u64));
+}
+
+#[test]
+fn the_largest_ceiling_is_that_of_the_header() {
+    let line = format!("#define MIDVOKT_LARGEST_CEILING {LARGEST_CEILING}\n");
+    assert!(HEADER.contains(&line));
 }
 
 #[test]

@@ -5,7 +5,7 @@
 
 use midvokt::{
     encode, plan, plan_encoded, plan_into, plan_words, ActiveComponentStepKind, Buffers, Complex,
-    Head, Lengths, Reason, Record, Rotation, RESULT_WORDS,
+    Head, Lengths, Reason, Record, Rotation, LARGEST_CEILING, RESULT_WORDS,
 };
 
 /// A head with so many coordinates at the start, and max_k 8.
@@ -14,6 +14,7 @@ fn head(initial_k: u64) -> Head {
         initial_k,
         max_k: 8,
         nexpvals: 0,
+        ceiling: LARGEST_CEILING,
     }
 }
 

@@ -6,7 +6,7 @@
 use std::alloc::{GlobalAlloc, Layout, System};
 use std::sync::atomic::{AtomicUsize, Ordering};
 
-use midvokt::{load, store, Head, Record, TRAILER_WORDS};
+use midvokt::{load, store, Head, Record, LARGEST_CEILING, TRAILER_WORDS};
 
 /// The system's allocator, which notes the greatest request.
 struct Noting;
@@ -46,6 +46,7 @@ fn memory_is_bounded_by_the_file() {
         initial_k: 3,
         max_k: 8,
         nexpvals: 0,
+        ceiling: LARGEST_CEILING,
     };
     let file = store(
         &head,

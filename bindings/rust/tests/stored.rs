@@ -6,8 +6,9 @@
 use midvokt::{
     encode, file_bytes, load, load_into, load_words, plan, plan_into, store, store_encoded,
     store_into, store_words, Buffers, Fault, Head, Lengths, Misfit, Place, Reason, Record, Refusal,
-    Rotation, Sections, Stored, StoredPlan, StoredWords, FILE_VERSION, LOAD_RESULT_WORDS,
-    MEASUREMENT_WORDS, ROTATION_WORDS, SCALAR_WORDS, STORE_RESULT_WORDS, TRAILER_WORDS,
+    Rotation, Sections, Stored, StoredPlan, StoredWords, FILE_VERSION, LARGEST_CEILING,
+    LOAD_RESULT_WORDS, MEASUREMENT_WORDS, ROTATION_WORDS, SCALAR_WORDS, STORE_RESULT_WORDS,
+    TRAILER_WORDS,
 };
 
 /// A head with so many coordinates at the start, and max_k 8.
@@ -16,6 +17,7 @@ fn head(initial_k: u64) -> Head {
         initial_k,
         max_k: 8,
         nexpvals: 0,
+        ceiling: LARGEST_CEILING,
     }
 }
 

@@ -5,7 +5,7 @@
 
 use midvokt::{
     encode, plan, plan_into, plan_words, ActiveComponentPlan, Buffers, Head, Lengths, Record,
-    Rotation, Summary, WholeWorks, RESULT_WORDS,
+    Rotation, Summary, WholeWorks, LARGEST_CEILING, RESULT_WORDS,
 };
 
 /// A head with so many coordinates at the start, and max_k 12.
@@ -14,6 +14,7 @@ fn head(initial_k: u64) -> Head {
         initial_k,
         max_k: 12,
         nexpvals: 0,
+        ceiling: LARGEST_CEILING,
     }
 }
 

@@ -2,7 +2,7 @@
 
 #![cfg(feature = "std")]
 
-use midvokt::{plan, Complex, Head, Record};
+use midvokt::{plan, Complex, Head, Record, LARGEST_CEILING};
 
 const THETA: f64 = 0.7;
 
@@ -12,6 +12,7 @@ fn rotated(x: u64, z: u64, phase: u64, state: [Complex; 2]) -> [Complex; 2] {
         initial_k: 1,
         max_k: 8,
         nexpvals: 0,
+        ceiling: LARGEST_CEILING,
     };
     let record = Record::rotation(1, x, z, phase, THETA / 2.0);
     let kernel = plan(&head, &[record]).unwrap().rotations[0].kernel;

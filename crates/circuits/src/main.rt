@@ -1,4 +1,4 @@
-// Plans the reference circuits of document 01 and prints the scalar fields of each plan, or its refusal.
+// Plans the reference circuits of document 01, whose ceiling is 62, and prints the scalar fields of each plan, or its refusal.
 use answer::ActiveComponentPlan;
 use answer::Planned;
 use component_plan::build_active_component_plan;
@@ -7,6 +7,9 @@ use records::Head;
 
 // The float 1 as a word.
 const ONE: u64 = 0x3ff0_0000_0000_0000;
+
+// The ceiling of document 01's circuits.
+const CEILING: u64 = 62;
 
 // Prints a text and a number.
 fn put_number(text: &[u8], n: u64) {
@@ -53,6 +56,7 @@ fn show(name: &[u8], initial_k: u64, max_k: u64, nexpvals: u64, records: &[u64])
         initial_k,
         max_k,
         nexpvals,
+        ceiling: CEILING,
     };
     let planned = build_active_component_plan(
         head,

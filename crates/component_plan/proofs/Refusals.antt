@@ -4,7 +4,7 @@ use Prim.Native.Nat.{ℕ, _/_, _%_, _<_, _≤_}
 use native.Mathlib.Omega.{arith}
 use mathlib.Core.Path.{_≡_, refl, sym, ap, ap₂, _∙_, subst}
 use mathlib.Core.Bool.{Bool, true, false, cond, not, _||_}
-use mathlib.Core.Option.{some, none}
+use mathlib.Core.Option.{Option, some, none}
 use mathlib.Core.List.{List}
 use lib.Dec.{eqb, ltb}
 use lib.ListN.{length}
@@ -12,13 +12,14 @@ use lib.IntN.{pos}
 use lib.Ieee.{fin}
 use borrow.Author.Tests.{ltb-false, lt-ltb, le-ltb}
 use Rattle.kernels.specs.Bits.{dimension}
+use Rattle.kernels.specs.Active.{Answer, given, refused}
 use Rattle.records.specs.Pass.{recordPass}
 use Rattle.records.specs.declared.Head.{Head}
 use Rattle.records.specs.declared.Checked.{Checked}
 use Rattle.definition.specs.Components.{allocatedFor}
 use Rattle.definition.specs.WholeWorks.{WholeWorks, wholeWorksOf}
 use Rattle.definition.specs.Walk.{Walk, Walked, finished, stopped}
-use Rattle.definition.specs.Plan.{Lengths, Plan, Result, planned, refusedAt, chosen, unread, unreadPlan, planFrom, wordsRefused, buffersRefused, refuseAll, afterPass, planRead, forDensePeak, planOf, heldAfter}
+use Rattle.definition.specs.Plan.{Lengths, Plan, Result, planned, refusedAt, chosen, unread, unreadPlan, planFrom, wordsRefused, buffersRefused, refuseAll, afterPass, planRead, forDensePeak, ceilingRefused, planOf, heldAfter}
 use Rattle.definition.proofs.Steps.{cond-yes, cond-no}
 use Rattle.tally.specs.declared.WholeWorks.the-variants as Whole
 use Rattle.answer.specs.declared.ActiveComponentPlan.{ActiveComponentPlan}
@@ -28,7 +29,7 @@ use Rattle.walk.specs.declared.Summary.{Summary}
 use Rattle.walk.specs.declared.Walked as Declared
 use Rattle.walk.specs.declared.Walked.the-variants as W
 use Rattle.walk.specs.Walking.{Buffers, lengthsOf, Ended, WalkEnds, SameLengths}
-use Rattle.lent.specs.Lent.{Held, lentNumber}
+use Rattle.lent.specs.Lent.{peakAnswer, headAnswer, Held, lentNumber}
 use Rattle.outputs.specs.declared.WordCounts.{WordCounts}
 use Rattle.answer.specs.Outcome.{accepted, turnedAway, outcomeOf, usedIn, outcomeIn}
 use Rattle.component_plan.specs.Answer.{Answers, ReadAnswers}
@@ -54,8 +55,8 @@ words-few : (a : Bool) (n : ℕ) → a || ltb 8192 n ≡ false → n ≤ 8192
 words-few true n e = let z : _≡_ {A = ℕ} 0 1 = cc in absurd (omega arith)
 words-few false n e = ltb-false 8192 n e
 
-module _ (limit : ℕ) (h : Head) (ws : List ℕ) (l : Lengths) (densePeak number : ℕ) (told : number ≡ lentNumber (h .«initial_k») (length ws) (buffersRefused (length ws / 8) l)) where
-  pub lent-refused : (number ≡ 0 → ⊥) → planRead limit h ws l densePeak ≡ refusedAt number 0
+module _ (h : Head) (ws : List ℕ) (l : Lengths) (densePeak number : ℕ) (told : number ≡ lentNumber (h .«initial_k») (length ws) (buffersRefused (length ws / 8) l)) where
+  pub lent-refused : (number ≡ 0 → ⊥) → planRead h ws l densePeak ≡ refusedAt number 0
   unfolding planRead
   lent-refused n = first-met (wordsRefused ws) (buffersRefused (length ws / 8) l) (ltb 512 (h .«initial_k»)) _ number told n
 
@@ -76,7 +77,7 @@ module _ (limit : ℕ) (h : Head) (ws : List ℕ) (l : Lengths) (densePeak numbe
     lent-initial = ltb-false 512 (h .«initial_k») (none-here .2)
 
     -- so the record pass decides
-    pub lent-passed : (c : Checked) → recordPass (h .«initial_k») ws ≡ c → planRead limit h ws l densePeak ≡ afterPass limit (h .«initial_k») densePeak ws c
+    pub lent-passed : (c : Checked) → recordPass (h .«initial_k») ws ≡ c → planRead h ws l densePeak ≡ afterPass (h .ceiling) (h .«initial_k») densePeak ws c
     unfolding planRead
     lent-passed c e = simp (lent-words, lent-room, none-here .2, e)
 
@@ -98,17 +99,17 @@ walk-finishes x r s b told e = walk-finished x s b (subst (λ (q : Declared.Walk
 
 -- ---- the answer of a program whose records are read
 
-pub read-refused : (limit : ℕ) (h : Head) (densePeak : ℕ) (ws : List ℕ) (before after : Buffers) (number index : ℕ)
-    → planRead limit h ws (lengthsOf before) densePeak ≡ refusedAt number index → ReadAnswers limit h densePeak ws before after (P.Refused number index)
-read-refused limit h densePeak ws before after number index e = record {
+pub read-refused : (h : Head) (densePeak : ℕ) (ws : List ℕ) (before after : Buffers) (number index : ℕ)
+    → planRead h ws (lengthsOf before) densePeak ≡ refusedAt number index → ReadAnswers h densePeak ws before after (P.Refused number index)
+read-refused h densePeak ws before after number index e = record {
   answer = sym (ap outcomeIn e);
   held = λ p f. let same : refusedAt number index ≡ planned p = sym e ∙ f in let z : _≡_ {A = ℕ} 0 1 = cc in absurd (omega arith);
 }
 
-pub read-planned : (limit : ℕ) (h : Head) (densePeak : ℕ) (ws : List ℕ) (before after : Buffers) (p : Plan) (r : Planned)
-    → planRead limit h ws (lengthsOf before) densePeak ≡ planned p → outcomeOf r ≡ outcomeIn (planned p) → Held (planned p) before after
-    → ReadAnswers limit h densePeak ws before after r
-read-planned limit h densePeak ws before after p r e answer held = record {
+pub read-planned : (h : Head) (densePeak : ℕ) (ws : List ℕ) (before after : Buffers) (p : Plan) (r : Planned)
+    → planRead h ws (lengthsOf before) densePeak ≡ planned p → outcomeOf r ≡ outcomeIn (planned p) → Held (planned p) before after
+    → ReadAnswers h densePeak ws before after r
+read-planned h densePeak ws before after p r e answer held = record {
   answer = answer ∙ sym (ap outcomeIn e);
   held = λ q f. subst (λ (x : Result). Held x before after) (sym e ∙ f) held;
 }
@@ -182,23 +183,34 @@ unread-held initial densePeak number index before after h = record {
 
 -- ---- the answer of the whole
 
-pub plan-too-large : (limit : ℕ) (h : Head) (ws : List ℕ) (l : Lengths) → dimension limit (h .«max_k») ≡ none → planOf limit h ws l ≡ refusedAt 1 0
+-- what the head alone decides
+abbrev byHead : Head → List ℕ → Lengths → Answer ℕ → Result
+byHead h ws l (refused number) = refusedAt number 0
+byHead h ws l (given densePeak) = forDensePeak h ws l (some densePeak)
+
+head-first : (h : Head) (ws : List ℕ) (l : Lengths) (t : Bool) (d : Option ℕ) → refuseAll t 24 (forDensePeak h ws l d) ≡ byHead h ws l (cond t (refused 24) (peakAnswer d))
+head-first h ws l true d = refl
+head-first h ws l false none = refl
+head-first h ws l false (some densePeak) = refl
+
+headed : (h : Head) (ws : List ℕ) (l : Lengths) (a : Answer ℕ) → a ≡ headAnswer h → planOf h ws l ≡ byHead h ws l a
 unfolding planOf
-plan-too-large limit h ws l e = ap (forDensePeak limit h ws l) e
+headed h ws l a e = head-first h ws l (ceilingRefused h) (dimension (h .ceiling) (h .«max_k»)) ∙ ap (byHead h ws l) (sym e)
 
-module _ (limit : ℕ) (h : Head) (ws : List ℕ) (l : Lengths) (densePeak : ℕ) (given : dimension limit (h .«max_k») ≡ some densePeak) where
-  pub plan-unread : unread h ≡ true → planOf limit h ws l ≡ planned (unreadPlan (h .«initial_k») densePeak)
-  unfolding planOf
-  plan-unread e = ap (forDensePeak limit h ws l) given ∙ cond-yes (unread h) _ _ e
+pub plan-headless : (h : Head) (ws : List ℕ) (l : Lengths) (number : ℕ) → refused number ≡ headAnswer h → planOf h ws l ≡ refusedAt number 0
+plan-headless h ws l number e = headed h ws l (refused number) e
 
-  pub plan-is-read : unread h ≡ false → planOf limit h ws l ≡ planRead limit h ws l densePeak
-  unfolding planOf
-  plan-is-read e = ap (forDensePeak limit h ws l) given ∙ cond-no (unread h) _ _ e
+module _ (h : Head) (ws : List ℕ) (l : Lengths) (densePeak : ℕ) (decided : given densePeak ≡ headAnswer h) where
+  pub plan-unread : unread h ≡ true → planOf h ws l ≡ planned (unreadPlan (h .«initial_k») densePeak)
+  plan-unread e = headed h ws l (given densePeak) decided ∙ cond-yes (unread h) _ _ e
+
+  pub plan-is-read : unread h ≡ false → planOf h ws l ≡ planRead h ws l densePeak
+  plan-is-read e = headed h ws l (given densePeak) decided ∙ cond-no (unread h) _ _ e
 
 -- the answer and the buffers, once the definition's result is known
-pub answers : (limit : ℕ) (h : Head) (ws : List ℕ) (before after : Buffers) (result : Result) (r : Planned)
-    → planOf limit h ws (lengthsOf before) ≡ result → outcomeOf r ≡ outcomeIn result → Held result before after → Answers limit h ws before after r
-answers limit h ws before after result r e answer held = record {
+pub answers : (h : Head) (ws : List ℕ) (before after : Buffers) (result : Result) (r : Planned)
+    → planOf h ws (lengthsOf before) ≡ result → outcomeOf r ≡ outcomeIn result → Held result before after → Answers h ws before after r
+answers h ws before after result r e answer held = record {
   answer = answer ∙ sym (ap outcomeIn e);
   held = subst (λ (x : Result). Held x before after) (sym e) held;
 }
@@ -214,18 +226,18 @@ stays (planned p) x e = (p, refl)
 stays (refusedAt n i) x e = let z : _≡_ {A = ℕ} 0 1 = cc in absurd (omega arith)
 
 -- what reading the records answered is the answer, with zeros after a refusal
-module _ (limit : ℕ) (h : Head) (densePeak : ℕ) (ws : List ℕ) (before between : Buffers) (r : Planned)
-    (read : planOf limit h ws (lengthsOf before) ≡ planRead limit h ws (lengthsOf before) densePeak) (a : ReadAnswers limit h densePeak ws before between r) where
+module _ (h : Head) (densePeak : ℕ) (ws : List ℕ) (before between : Buffers) (r : Planned)
+    (read : planOf h ws (lengthsOf before) ≡ planRead h ws (lengthsOf before) densePeak) (a : ReadAnswers h densePeak ws before between r) where
   pub refused-answers : (number index : ℕ) (after : Buffers) → r ≡ P.Refused number index → SameLengths before between → Held (refusedAt 0 0) between after
-      → Answers limit h ws before after (P.Refused number index)
+      → Answers h ws before after (P.Refused number index)
   refused-answers number index after e same zeros =
-      let gone = away (planRead limit h ws (lengthsOf before) densePeak) number index (sym (ap outcomeOf e) ∙ a .answer) in
-      answers limit h ws before after (refusedAt number index) (P.Refused number index) (read ∙ gone) refl (zeros-held 0 0 number index before between after same zeros)
+      let gone = away (planRead h ws (lengthsOf before) densePeak) number index (sym (ap outcomeOf e) ∙ a .answer) in
+      answers h ws before after (refusedAt number index) (P.Refused number index) (read ∙ gone) refl (zeros-held 0 0 number index before between after same zeros)
 
-  pub planned-answers : (x : ActiveComponentPlan) → r ≡ P.Plan x → Answers limit h ws before between r
+  pub planned-answers : (x : ActiveComponentPlan) → r ≡ P.Plan x → Answers h ws before between r
   planned-answers x e =
-      let plan = stays (planRead limit h ws (lengthsOf before) densePeak) x (sym (ap outcomeOf e) ∙ a .answer) in
-      answers limit h ws before between (planned (plan .0)) r (read ∙ plan .1) (a .answer ∙ ap outcomeIn (plan .1)) (a .held (plan .0) (plan .1))
+      let plan = stays (planRead h ws (lengthsOf before) densePeak) x (sym (ap outcomeOf e) ∙ a .answer) in
+      answers h ws before between (planned (plan .0)) r (read ∙ plan .1) (a .answer ∙ ap outcomeIn (plan .1)) (a .held (plan .0) (plan .1))
 
 -- ---- which records are read
 

@@ -10,11 +10,11 @@ use Rattle.answer.specs.declared.Planned.{Planned}
 use Rattle.answer.specs.Outcome.{outcomeOf, outcomeIn}
 
 -- the answer and every buffer are the definition's
-pub record Answers (limit : ℕ) (h : Head) (ws : List ℕ) (before after : Buffers) (r : Planned) : Type 0 where
-  pub answer : outcomeOf r ≡ outcomeIn (planOf limit h ws (lengthsOf before))
-  pub held : Held (planOf limit h ws (lengthsOf before)) before after
+pub record Answers (h : Head) (ws : List ℕ) (before after : Buffers) (r : Planned) : Type 0 where
+  pub answer : outcomeOf r ≡ outcomeIn (planOf h ws (lengthsOf before))
+  pub held : Held (planOf h ws (lengthsOf before)) before after
 
 -- the same of a program whose records are read, but that a refusal leaves the buffers open
-pub record ReadAnswers (limit : ℕ) (h : Head) (densePeak : ℕ) (ws : List ℕ) (before after : Buffers) (r : Planned) : Type 0 where
-  pub answer : outcomeOf r ≡ outcomeIn (planRead limit h ws (lengthsOf before) densePeak)
-  pub held : (p : Plan) → planRead limit h ws (lengthsOf before) densePeak ≡ planned p → Held (planned p) before after
+pub record ReadAnswers (h : Head) (densePeak : ℕ) (ws : List ℕ) (before after : Buffers) (r : Planned) : Type 0 where
+  pub answer : outcomeOf r ≡ outcomeIn (planRead h ws (lengthsOf before) densePeak)
+  pub held : (p : Plan) → planRead h ws (lengthsOf before) densePeak ≡ planned p → Held (planned p) before after

@@ -3,11 +3,11 @@ ghost use Rattle.component_plan.specs.Answer.{Answers, ReadAnswers};
 use answer::Planned;
 use answer::plan_of;
 use answer::unread_plan;
-use kernels::bits::ActiveLength;
-use kernels::bits::active_length;
+use lent::DensePeak;
 use lent::buffers_short;
 use lent::clear_all;
 use lent::clear_rest;
+use lent::dense_peak;
 use lent::lent_number;
 use outputs::buffers::allocated;
 use records::Checked;
@@ -16,12 +16,8 @@ use records::check_records;
 use walk::Walked;
 use walk::walk;
 
-// The dimension's limit: a component of so many members is too large.
-const LIMIT: u64 = 62;
-
 // The plan of a program whose records are read.
 fn plan_read(
-    limit: u64,
     head: Head,
     dense_peak: u64,
     records: &[u64],
@@ -33,9 +29,10 @@ fn plan_read(
     measurements: &mut [u64],
     groups: &mut [u64],
 ) -> Planned
-    ensures { λ r. ⌜ ReadAnswers limit head «dense_peak» (now (records .entry)) (record { steps = now (steps .entry); merges = now (merges .entry); sizes = now (sizes .entry); rotations = now (rotations .entry); promotions = now (promotions .entry); measurements = now (measurements .entry); groups = now (groups .entry) }) (record { steps = now (steps .exit); merges = now (merges .exit); sizes = now (sizes .exit); rotations = now (rotations .exit); promotions = now (promotions .exit); measurements = now (measurements .exit); groups = now (groups .exit) }) r ⌝ }
+    ensures { λ r. ⌜ ReadAnswers head «dense_peak» (now (records .entry)) (record { steps = now (steps .entry); merges = now (merges .entry); sizes = now (sizes .entry); rotations = now (rotations .entry); promotions = now (promotions .entry); measurements = now (measurements .entry); groups = now (groups .entry) }) (record { steps = now (steps .exit); merges = now (merges .exit); sizes = now (sizes .exit); rotations = now (rotations .exit); promotions = now (promotions .exit); measurements = now (measurements .exit); groups = now (groups .exit) }) r ⌝ }
 {
     let initial_k = head.initial_k;
+    let ceiling = head.ceiling;
     let n = records.len() / 8;
     let short = buffers_short(
         n,
@@ -56,7 +53,7 @@ fn plan_read(
         Checked::Refused { number, index } => Planned::Refused { number, index },
         Checked::Passed => {
             let walked = walk(
-                limit,
+                ceiling,
                 initial_k as usize,
                 records,
                 steps,
@@ -102,14 +99,14 @@ pub fn build_active_component_plan(
     measurements: &mut [u64],
     groups: &mut [u64],
 ) -> Planned
-    ensures { λ r. ⌜ Answers 62 head (now (records .entry)) (record { steps = now (steps .entry); merges = now (merges .entry); sizes = now (sizes .entry); rotations = now (rotations .entry); promotions = now (promotions .entry); measurements = now (measurements .entry); groups = now (groups .entry) }) (record { steps = now (steps .exit); merges = now (merges .exit); sizes = now (sizes .exit); rotations = now (rotations .exit); promotions = now (promotions .exit); measurements = now (measurements .exit); groups = now (groups .exit) }) r ⌝ }
+    ensures { λ r. ⌜ Answers head (now (records .entry)) (record { steps = now (steps .entry); merges = now (merges .entry); sizes = now (sizes .entry); rotations = now (rotations .entry); promotions = now (promotions .entry); measurements = now (measurements .entry); groups = now (groups .entry) }) (record { steps = now (steps .exit); merges = now (merges .exit); sizes = now (sizes .exit); rotations = now (rotations .exit); promotions = now (promotions .exit); measurements = now (measurements .exit); groups = now (groups .exit) }) r ⌝ }
 {
     let initial_k = head.initial_k;
     let max_k = head.max_k;
     let nexpvals = head.nexpvals;
-    let length = active_length(max_k, LIMIT);
-    match length {
-        ActiveLength::TooLarge => {
+    let peak = dense_peak(head);
+    match peak {
+        DensePeak::Refused(number) => {
             clear_all(
                 steps,
                 merges,
@@ -119,12 +116,9 @@ pub fn build_active_component_plan(
                 measurements,
                 groups,
             );
-            Planned::Refused {
-                number: 1,
-                index: 0,
-            }
+            Planned::Refused { number, index: 0 }
         }
-        ActiveLength::Length(dense_peak) => {
+        DensePeak::Given(dense_peak) => {
             if max_k < 8 || nexpvals != 0 {
                 clear_all(
                     steps,
@@ -138,7 +132,6 @@ pub fn build_active_component_plan(
                 return Planned::Plan(unread_plan(initial_k, dense_peak));
             }
             let planned = plan_read(
-                LIMIT,
                 head,
                 dense_peak,
                 records,

@@ -160,7 +160,7 @@ module _ (limit k densePeak : ℕ) (is : List Instruction) (u : Walk) (run : Run
   peak-is = run-peak (activeStart k) run (start-tracked k) ∙ ap (λ (n : ℕ). max n (greatest (map liveAt (moments (activeStart k) is)))) (start-peak k)
 
   -- the longest sizes are the greatest lengths of the bins
-  longest-is : (c : ℕ) → longestOf plan (length is) c ≡ getD (u .longest) c 0
+  pub longest-is : (c : ℕ) → longestOf plan (length is) c ≡ getD (u .longest) c 0
   longest-is c =
       let e : length is ≡ 0 + length is = omega arith in
       ap (λ (n : ℕ). longestOf plan n c) e
@@ -201,10 +201,10 @@ pub read-head : (h : Head) → 8 ≤ h .«max_k» → h .nexpvals ≡ 0 → unre
 read-head h wide none = ap₂ (λ (a b : Bool). a || not b) (le-ltb (h .«max_k») 8 wide) (eq-eqb (h .nexpvals) 0 none)
 
 -- Demand 3
-pub connected : (limit : ℕ) (h : Head) (ws : List ℕ) (l : Lengths) (p : Plan) → planOf limit h ws l ≡ planned p → 8 ≤ h .«max_k» → h .nexpvals ≡ 0
+pub connected : (h : Head) (ws : List ℕ) (l : Lengths) (p : Plan) → planOf h ws l ≡ planned p → 8 ≤ h .«max_k» → h .nexpvals ≡ 0
     → (m : ℕ) → m ≤ length (instructionsOf ws) → Connected (h .«initial_k») (instructionsOf ws) p m
-connected limit h ws l p e wide none m within =
-    let a = accepted limit h ws l p (read-head h wide none) e in
-    let small = subst (λ (q : Plan). q .peak < 2 ^ 63) (a .plan-is) (plan-fits limit h ws l p e .peak) in
+connected h ws l p e wide none m within =
+    let a = accepted h ws l p (read-head h wide none) e in
+    let small = subst (λ (q : Plan). q .peak < 2 ^ 63) (a .plan-is) (plan-fits h ws l p e .peak) in
     subst (λ (q : Plan). Connected (h .«initial_k») (instructionsOf ws) q m) (sym (a .plan-is))
-    (run-connected limit (h .«initial_k») (a .densePeak) (instructionsOf ws) (a .last) (a .run) small m within)
+    (run-connected (h .ceiling) (h .«initial_k») (a .densePeak) (instructionsOf ws) (a .last) (a .run) small m within)

@@ -27,7 +27,7 @@ use Rattle.records.specs.declared.Instruction.the-variants.{Rotation, Promotion
 use Rattle.records.proofs.Laws.{refused-in, instructions-length}
 use Rattle.definition.specs.Lists.{concat, isIn, placeOf, removeAt}
 use Rattle.definition.specs.Walk.{Written, Walk, joinOf, localAction, rotationRow, measurementRow, withStep, refuse, whenGiven, isNone, noStep, ignoredStep, promotionStep, rotationStep, measurementStep, rotate, measure, step, Walked, finished, stopped, onward, start, walkFrom}
-use Rattle.definition.specs.Plan.{Lengths, Plan, Result, planned, refusedAt, unread, wordsRefused, buffersRefused, afterWalk, afterPass, refuseAll, planRead, forDensePeak, planOf}
+use Rattle.definition.specs.Plan.{Lengths, Plan, Result, planned, refusedAt, unread, wordsRefused, buffersRefused, afterWalk, afterPass, refuseAll, planRead, maxDimension, forDensePeak, ceilingRefused, planOf}
 use Rattle.definition.proofs.Steps.{Stepped, ignored, rotated, promoted, measured, recorded, detected, expected, branched, Run, done, more}
 
 -- ---- lists that go on
@@ -447,21 +447,21 @@ indexed-pass limit initial densePeak ws = go (recordPass initial ws) refl
         let same : i ≡ j = cc in inr (omega (arith, s .index-below))
 
 -- planning refuses with the index 0 or a record's
-pub refused-index : (limit : ℕ) (h : Head) (ws : List ℕ) (l : Lengths) (n j : ℕ) → planOf limit h ws l ≡ refusedAt n j → (j ≡ 0) ⊎ (j < length ws / 8)
+pub refused-index : (h : Head) (ws : List ℕ) (l : Lengths) (n j : ℕ) → planOf h ws l ≡ refusedAt n j → (j ≡ 0) ⊎ (j < length ws / 8)
 unfolding planOf planRead
-refused-index limit h ws l = go (dimension limit (h .«max_k»))
+refused-index h ws l = indexed-refuse ws (ceilingRefused h) 24 _ (go (maxDimension h))
   where
-    read : (densePeak : ℕ) → Indexed ws (planRead limit h ws l densePeak)
+    read : (densePeak : ℕ) → Indexed ws (planRead h ws l densePeak)
     read densePeak =
         indexed-refuse ws (wordsRefused ws) 2 _
         (indexed-refuse ws (buffersRefused (length ws / 8) l) 3 _
         (indexed-refuse ws (ltb 512 (h .«initial_k»)) 4 _
-        (indexed-pass limit (h .«initial_k») densePeak ws)))
+        (indexed-pass (h .ceiling) (h .«initial_k») densePeak ws)))
 
     either : (t : Bool) (p : Plan) (r : Result) → Indexed ws r → Indexed ws (cond t (planned p) r)
     either true p r i = indexed-plan ws p
     either false p r i = i
 
-    go : (d : Option ℕ) → Indexed ws (forDensePeak limit h ws l d)
+    go : (d : Option ℕ) → Indexed ws (forDensePeak h ws l d)
     go none = indexed-first ws 1
     go (some densePeak) = either (unread h) _ _ (read densePeak)

@@ -1,4 +1,5 @@
 pub mod Circuits
+pub mod Ceilings
 pub mod Counting
 pub mod Filled
 pub mod Steps
@@ -26,4 +27,5 @@ pub mod Words
 pub mod Connected
 pub mod Padded
 pub mod Listed
+pub mod Under
 pub mod Worked

@@ -23,7 +23,7 @@ use Rattle.definition.proofs.Growth.{Extends, Grown, AllOf, extends-len
 use Rattle.definition.proofs.Replay.{seam-first, seam-second, seam-part, ReplayIs, rotation-kind, rotation-row, measurement-kind, measurement-row}
 use Rattle.definition.proofs.Accepted.{Accepted, accepted}
 use Rattle.definition.proofs.Connected.{rotations-wide, measurements-wide, start-steps, cut, next-step, read-head}
-use Rattle.definition.proofs.Padded.{Named, run-names, Pads, zeroed-length, kind-same, payload-same, rotation-same, rotation-part, measurement-same, measurement-part, after-same}
+use Rattle.definition.proofs.Padded.{Named, accepted-names, Pads, zeroed-length, kind-same, payload-same, rotation-same, rotation-part, measurement-same, measurement-part, after-same}
 
 -- ---- the row of each join
 
@@ -159,21 +159,21 @@ rows-counted k densePeak u wide long =
     let b = length-concat 19 (u .written .measurements) long in (omega arith, omega arith)
 
 -- of an accepted plan: a row has 21 words or 19
-pub accepted-listed : (limit : ℕ) (h : Head) (ws : List ℕ) (l : Lengths) (p : Plan) → Accepted limit h ws l p
+pub accepted-listed : (h : Head) (ws : List ℕ) (l : Lengths) (p : Plan) → Accepted h ws l p
     → SourcesListed (h .«initial_k») (instructionsOf ws) p (length (p .rotations) / 21) (length (p .measurements) / 19)
-accepted-listed limit h ws l p a =
+accepted-listed h ws l p a =
     let k = h .«initial_k» in
     let is = instructionsOf ws in
     let run = a .run in
-    let counted = rows-counted k (a .densePeak) (a .last) (rotations-wide limit k (a .densePeak) is (a .last) run) (measurements-wide limit k (a .densePeak) is (a .last) run) in
+    let counted = rows-counted k (a .densePeak) (a .last) (rotations-wide (h .ceiling) k (a .densePeak) is (a .last) run) (measurements-wide (h .ceiling) k (a .densePeak) is (a .last) run) in
     subst (λ (q : Plan). SourcesListed k is q (length (q .rotations) / 21) (length (q .measurements) / 19)) (sym (a .plan-is))
     (subst₂ (λ (r m : ℕ). SourcesListed k is (planFrom k (a .densePeak) (a .last)) r m) (counted .0) (counted .1)
-    (run-listed limit k (a .densePeak) is (a .last) run))
+    (run-listed (h .ceiling) k (a .densePeak) is (a .last) run))
 
 -- CR 3 for every accepted program that was read
-pub listed : (limit : ℕ) (h : Head) (ws : List ℕ) (l : Lengths) (p : Plan) → planOf limit h ws l ≡ planned p → 8 ≤ h .«max_k» → h .nexpvals ≡ 0
+pub listed : (h : Head) (ws : List ℕ) (l : Lengths) (p : Plan) → planOf h ws l ≡ planned p → 8 ≤ h .«max_k» → h .nexpvals ≡ 0
     → SourcesListed (h .«initial_k») (instructionsOf ws) p (length (p .rotations) / 21) (length (p .measurements) / 19)
-listed limit h ws l p e wide none = accepted-listed limit h ws l p (accepted limit h ws l p (read-head h wide none) e)
+listed h ws l p e wide none = accepted-listed h ws l p (accepted h ws l p (read-head h wide none) e)
 
 -- ---- the words followed by zeros
 
@@ -215,13 +215,13 @@ row-of-same : (p q : Plan) (records kind i : ℕ) → Pads p q → RowOf records
 row-of-same p q records kind i pads r = (r .0, r .1, kind-same p q pads (r .0) ∙ r .2, payload-same p q pads (r .0) ∙ r .3)
 
 -- CR 3 of an accepted plan is CR 3 of its words followed by zeros
-pub listed-padded : (limit : ℕ) (h : Head) (ws : List ℕ) (l : Lengths) (p q : Plan) → Accepted limit h ws l p → Pads p q
+pub listed-padded : (h : Head) (ws : List ℕ) (l : Lengths) (p q : Plan) → Accepted h ws l p → Pads p q
     → SourcesListed (h .«initial_k») (instructionsOf ws) q (length (p .rotations) / 21) (length (p .measurements) / 19)
-listed-padded limit h ws l p q a pads =
-    let c = accepted-listed limit h ws l p a in
+listed-padded h ws l p q a pads =
+    let c = accepted-listed h ws l p a in
     let k = h .«initial_k» in
     let is = instructionsOf ws in
-    let named : (j : ℕ) → j < length is → Named p j = λ j g. subst (λ (x : Plan). Named x j) (sym (a .plan-is)) (run-names k (a .densePeak) (a .run) j g) in record {
+    let named = accepted-names a in record {
       joins = λ m g. listed-same p q pads m (λ j f. named j (omega arith)) (activeAfter (activeStart k) (take m is) .order) (getD is m DormantBranch) (c .joins m g);
       rotation = λ i g. row-of-same p q (length is) 2 i pads (c .rotation i g);
       measurement = λ i g. row-of-same p q (length is) 4 i pads (c .measurement i g);

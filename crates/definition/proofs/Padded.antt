@@ -146,7 +146,7 @@ run-names k densePeak {u} run m h =
 
 -- ---- the same replay
 
--- the scalars that demand 3 reads are p's, and so are the words, with zeros behind them
+-- the scalars that the claims read are p's, and so are the words, with zeros behind them
 pub record Pads (p q : Plan) : Type 0 where
   pub initialComponents : q .initialComponents ≡ p .initialComponents
   pub componentCount : q .componentCount ≡ p .componentCount
@@ -154,6 +154,7 @@ pub record Pads (p q : Plan) : Type 0 where
   pub allocated : q .allocated ≡ p .allocated
   pub steps : Zeroed (p .steps) (q .steps)
   pub merges : Zeroed (p .merges) (q .merges)
+  pub sizes : Zeroed (p .sizes) (q .sizes)
   pub rotations : Zeroed (p .rotations) (q .rotations)
   pub promotions : Zeroed (p .promotions) (q .promotions)
   pub measurements : Zeroed (p .measurements) (q .measurements)
@@ -225,7 +226,7 @@ module _ (p q : Plan) (pads : Pads p q) where
       ∙ ap (changedBy (kindAt p m) p m) (ap (replayJoined q m) before ∙ join-same m here (replayAfter p m))
 
   -- and just after the join of the next
-  joined-same : (m : ℕ) → ((j : ℕ) → j < suc m → Named p j) → replayJoined q m (replayAfter q m) ≡ replayJoined p m (replayAfter p m)
+  pub joined-same : (m : ℕ) → ((j : ℕ) → j < suc m → Named p j) → replayJoined q m (replayAfter q m) ≡ replayJoined p m (replayAfter p m)
   joined-same m named = ap (replayJoined q m) (after-same m (λ j h. named j (omega arith))) ∙ join-same m (named m (omega arith)) (replayAfter p m)
 
   -- the greatest length of component i
@@ -325,9 +326,12 @@ module _ (p q : Plan) (pads : Pads p q) where
         peak-fits = let a = pads .peak in let b = pads .allocated in let e = c .peak-fits in omega arith;
       }
 
+-- each step of an accepted plan names a row and a part that lie among its words
+pub accepted-names : {h : Head} {ws : List ℕ} {l : Lengths} {p : Plan} → Accepted h ws l p → (j : ℕ) → j < length (instructionsOf ws) → Named p j
+accepted-names {h = h} a j g = subst (λ (x : Plan). Named x j) (sym (a .plan-is)) (run-names (h .«initial_k») (a .densePeak) (a .run) j g)
+
 -- Demand 3 of an accepted plan is demand 3 of its words followed by zeros
-pub connected-padded : (limit : ℕ) (h : Head) (ws : List ℕ) (l : Lengths) (p q : Plan) → Accepted limit h ws l p → Pads p q
+pub connected-padded : (h : Head) (ws : List ℕ) (l : Lengths) (p q : Plan) → Accepted h ws l p → Pads p q
     → (m : ℕ) → m ≤ length (instructionsOf ws) → Connected (h .«initial_k») (instructionsOf ws) p m → Connected (h .«initial_k») (instructionsOf ws) q m
-connected-padded limit h ws l p q a pads m within c =
-    connected-same p q pads (h .«initial_k») (instructionsOf ws)
-    (λ j g. subst (λ (x : Plan). Named x j) (sym (a .plan-is)) (run-names (h .«initial_k») (a .densePeak) (a .run) j g)) m within c
+connected-padded h ws l p q a pads m within c =
+    connected-same p q pads (h .«initial_k») (instructionsOf ws) (accepted-names a) m within c

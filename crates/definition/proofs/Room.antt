@@ -29,7 +29,7 @@ use Rattle.definition.specs.Lists.{removeAt, numbersFrom, total, concat}
 use Rattle.definition.specs.Components.{gathered, emptied, joined, amplitudes, liveDimension}
 use Rattle.definition.specs.WholeWorks.{withoutQuotient}
 use Rattle.definition.specs.Walk.{Written, Walk, Join, joinOf, rotationRow, measurementRow, start, noStep, ignoredStep, promotionStep, rotationStep, measurementStep}
-use Rattle.definition.specs.Plan.{Lengths, Plan, planned, unread, unreadPlan, groupsOf, planFrom, buffersRefused, forDensePeak, planOf, Result, refusedAt, padded, heldAfter}
+use Rattle.definition.specs.Plan.{Lengths, Plan, planned, unread, unreadPlan, groupsOf, planFrom, buffersRefused, maxDimension, forDensePeak, planOf, Result, refusedAt, padded, heldAfter}
 use Rattle.definition.specs.Connectivity.{occurrences, Member, NoRepeats, ActiveOrder, activeStart, activeStep, activeAfter, isPromotion}
 use Rattle.definition.specs.Laws.{Fits, FitsIn}
 use Rattle.definition.proofs.Counting.{same-or-not, one-here, none-here, member-head, member-tail, length-removeAt, length-numbers}
@@ -38,7 +38,7 @@ use Rattle.definition.proofs.Joins.{length-emptied, length-joined, empt
 use Rattle.definition.proofs.Live.{rearranged-length}
 use Rattle.definition.proofs.Invariant.{Holds, sources-once, source-below, source-holds}
 use Rattle.definition.proofs.Tracking.{join-peak-is, Tracked, activeOf, tracked-here, tracked-join, target-source, target-below, target-members, start-tracked, step-tracked, run-tracked}
-use Rattle.definition.proofs.Accepted.{Accepted, accepted}
+use Rattle.definition.proofs.Accepted.{Accepted, ceiling-passed, accepted}
 use Rattle.definition.proofs.Growth.{rowCount, run-rows, run-steps, run-rotations, run-measurements, start-wide, length-concat}
 
 -- ---- sums over a collection of lists
@@ -483,12 +483,11 @@ passed-promotions k ws h e =
 -- ---- plans
 
 -- a plan that reads nothing is the empty one
-pub unread-planned : (limit : ℕ) (h : Head) (ws : List ℕ) (l : Lengths) (p : Plan) → unread h ≡ true → planOf limit h ws l ≡ planned p
+pub unread-planned : (h : Head) (ws : List ℕ) (l : Lengths) (p : Plan) → unread h ≡ true → planOf h ws l ≡ planned p
     → (densePeak : ℕ) × (p ≡ unreadPlan (h .«initial_k») densePeak)
-unfolding planOf
-unread-planned limit h ws l p u = go (dimension limit (h .«max_k»))
+unread-planned h ws l p u e = go (maxDimension h) (ceiling-passed h ws l p e .1)
   where
-    go : (d : Option ℕ) → forDensePeak limit h ws l d ≡ planned p → (densePeak : ℕ) × (p ≡ unreadPlan (h .«initial_k») densePeak)
+    go : (d : Option ℕ) → forDensePeak h ws l d ≡ planned p → (densePeak : ℕ) × (p ≡ unreadPlan (h .«initial_k») densePeak)
     go none e = let z : _≡_ {A = ℕ} 0 1 = cc in absurd (omega arith)
     go (some densePeak) e =
         let f : planned (unreadPlan (h .«initial_k») densePeak) ≡ planned p = sym (cond-yes (unread h) _ _ u) ∙ e in
@@ -529,8 +528,8 @@ unfolding unreadPlan
 unread-fits-in initial densePeak l = omega arith
 
 -- a plan that was made from the records
-accepted-fits : (limit : ℕ) (h : Head) (ws : List ℕ) (l : Lengths) (p : Plan) → Accepted limit h ws l p → Fits p (length ws / 8)
-accepted-fits limit h ws l p a =
+accepted-fits : (h : Head) (ws : List ℕ) (l : Lengths) (p : Plan) → Accepted h ws l p → Fits p (length ws / 8)
+accepted-fits h ws l p a =
     let k = h .«initial_k» in
     let count = component-count k (a .run) in
     let most = passed-promotions k ws (a .initial-small) (a .passed) in
@@ -582,17 +581,17 @@ lent-enough n l p e f =
       groups = omega (arith, f .groups, m .groups);
     }
 
-module _ (limit : ℕ) (h : Head) (ws : List ℕ) (l : Lengths) (p : Plan) (e : planOf limit h ws l ≡ planned p) where
+module _ (h : Head) (ws : List ℕ) (l : Lengths) (p : Plan) (e : planOf h ws l ≡ planned p) where
   either : (t : Bool) → unread h ≡ t → Fits p (length ws / 8) × FitsIn p l
   either true u =
-      let q = unread-planned limit h ws l p u e in
+      let q = unread-planned h ws l p u e in
       subst (λ (plan : Plan). Fits plan (length ws / 8) × FitsIn plan l) (sym (q .1)) (
         unread-fits (h .«initial_k») (q .0) (length ws / 8),
         unread-fits-in (h .«initial_k») (q .0) l,
       )
   either false u =
-      let a = accepted limit h ws l p u e in
-      let f = accepted-fits limit h ws l p a in
+      let a = accepted h ws l p u e in
+      let f = accepted-fits h ws l p a in
       (f, lent-enough (length ws / 8) l p (a .buffers) f)
 
   -- what a plan's outputs take, with the number of records

@@ -17,7 +17,7 @@ use Rattle.kernels.specs.declared.active.PrecomputedActivePauliMeasurementKerne
 use Rattle.records.specs.declared.Instruction.{Instruction}
 use Rattle.records.specs.declared.Instruction.the-variants.{Rotation, Promotion, RecordMeasurement, RecordDetector, Measurement, Expectation, DormantBranch}
 use Rattle.definition.specs.Lists.{placeOf}
-use Rattle.definition.specs.Walk.{Walk, joinOf, localAction, refuse, whenGiven, isNone, noStep, ignoredStep, promotionStep, rotationStep, measurementStep, rotate, measure, step, Walked, finished, onward, walkFrom}
+use Rattle.definition.specs.Walk.{Walk, joinOf, localAction, refuse, whenGiven, isNone, tooLarge, noStep, ignoredStep, promotionStep, rotationStep, measurementStep, rotate, measure, step, Walked, finished, onward, walkFrom}
 use Rattle.definition.specs.Connectivity.{Member}
 use Rattle.definition.proofs.Counting.{isIn-member}
 
@@ -87,7 +87,7 @@ rotate-stepped limit w v width x z phase angle sine cosine e =
   where
     go : (t : Bool) → eqb (length (w .order)) 0 ≡ t → width ≡ length (w .order)
         → cond (eqb (length (w .order)) 0) (given (ignoredStep w))
-        (refuse (isNone (dimension limit (length (joinOf x z w .members)))) 14
+        (refuse (tooLarge limit (joinOf x z w)) 14
         (whenGiven (rotation limit (localAction x z phase w (joinOf x z w)) phase angle sine cosine) λ k. given (rotationStep w (joinOf x z w) k)))
         ≡ given v
         → Stepped limit w (Rotation width x z phase angle sine cosine) v
@@ -99,7 +99,7 @@ rotate-stepped limit w v width x z phase angle sine cosine e =
         (ignored x z phase angle sine cosine (empty-order (w .order) none-active)))
     go false t wide g =
         let rest = sym (cond-no (eqb (length (w .order)) 0) (given (ignoredStep w)) _ t) ∙ g in
-        let second = refuse-given _ 14 _ v rest in
+        let second = refuse-given (tooLarge limit (joinOf x z w)) 14 _ v rest in
         let small = dimension-below limit (length (joinOf x z w .members)) (second .0) in
         let made = when-given (rotation limit (localAction x z phase w (joinOf x z w)) phase angle sine cosine) _ v (second .1) in
         let some-active = eqb-false (length (w .order)) 0 t in
@@ -112,7 +112,7 @@ unfolding measure
 measure-stepped limit w v width x z phase pivot e =
     let first = refuse-given _ 12 _ v e in
     let second = refuse-given _ 13 _ v (first .1) in
-    let third = refuse-given _ 14 _ v (second .1) in
+    let third = refuse-given (tooLarge limit (joinOf x z w)) 14 _ v (second .1) in
     let fourth = refuse-given _ 15 _ v (third .1) in
     let fifth = refuse-given _ 16 _ v (fourth .1) in
     let wide : width ≡ length (w .order) = eqb-true width (length (w .order)) (not-false _ (first .0)) in
@@ -140,7 +140,7 @@ pub data Run (limit : ℕ) : Walk → List Instruction → Walk → Type 0 where
   done : (w : Walk) → Run limit w [] w
   more : {w v u : Walk} {i : Instruction} {is : List Instruction} → Stepped limit w i v → Run limit v is u → Run limit w (i ∷ is) u
 
-onward-finished : (x : Answer Walk) (index : ℕ) (f : Walk → Walked) (u : Walk) → onward x index f ≡ finished u → (v : Walk) × (x ≡ given v) × (f v ≡ finished u)
+pub onward-finished : (x : Answer Walk) (index : ℕ) (f : Walk → Walked) (u : Walk) → onward x index f ≡ finished u → (v : Walk) × (x ≡ given v) × (f v ≡ finished u)
 onward-finished (given v) index f u e = (v, refl, e)
 onward-finished (refused n) index f u e = let z : _≡_ {A = ℕ} 0 1 = cc in absurd (omega arith)
 

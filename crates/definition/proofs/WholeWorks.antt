@@ -271,9 +271,9 @@ agree s dense component f = by-width (ltb 38 (s .widest)) refl
     by-width false e = let g = f (ltb-false 38 (s .widest) e) in by-work (eqb (s .component) 0) refl (g .0) (g .1)
 
 -- a plan from records: no more than 1,024
-accepted-agree : (limit : ℕ) (h : Head) (ws : List ℕ) (l : Lengths) (p : Plan) → Accepted limit h ws l p → Agree (p .wholeWorks) (p .denseWork) (p .componentWork)
+accepted-agree : (h : Head) (ws : List ℕ) (l : Lengths) (p : Plan) → Accepted h ws l p → Agree (p .wholeWorks) (p .denseWork) (p .componentWork)
 unfolding planFrom
-accepted-agree limit h ws l p a =
+accepted-agree h ws l p a =
     let k = h .«initial_k» in
     let u = a .last in
     let few : length (instructionsOf ws) ≤ 1024 =
@@ -292,14 +292,14 @@ unread-agree initial densePeak =
     let none = is-whole (fin false 0 (pos 0)) 0 (start-exactly 0 .dense) (omega arith) in (none, none)
 
 -- "The float works must equal these numbers wherever they are given": of every plan
-pub works-agree : (limit : ℕ) (h : Head) (ws : List ℕ) (l : Lengths) (p : Plan) → planOf limit h ws l ≡ planned p → Agree (p .wholeWorks) (p .denseWork) (p .componentWork)
-works-agree limit h ws l p e = either (unread h) refl
+pub works-agree : (h : Head) (ws : List ℕ) (l : Lengths) (p : Plan) → planOf h ws l ≡ planned p → Agree (p .wholeWorks) (p .denseWork) (p .componentWork)
+works-agree h ws l p e = either (unread h) refl
   where
     either : (t : Bool) → unread h ≡ t → Agree (p .wholeWorks) (p .denseWork) (p .componentWork)
     either true u =
-        let q = unread-planned limit h ws l p u e in
+        let q = unread-planned h ws l p u e in
         subst (λ (plan : Plan). Agree (plan .wholeWorks) (plan .denseWork) (plan .componentWork)) (sym (q .1)) (unread-agree (h .«initial_k») (q .0))
-    either false u = accepted-agree limit h ws l p (accepted limit h ws l p u e)
+    either false u = accepted-agree h ws l p (accepted h ws l p u e)
 
 -- ---- which programs are too wide
 
@@ -347,11 +347,11 @@ wide-marked s = go (ltb 38 (s .widest)) refl (eqb (s .component) 0)
     go false e false f = let y : _≡_ {A = ℕ} 0 1 = cc in absurd (omega arith)
 
 -- "Where the active width, at the start and after each record, never passes 38": of every plan whose records are read
-pub too-wide-exactly : (limit : ℕ) (h : Head) (ws : List ℕ) (l : Lengths) (p : Plan) → unread h ≡ false → planOf limit h ws l ≡ planned p
+pub too-wide-exactly : (h : Head) (ws : List ℕ) (l : Lengths) (p : Plan) → unread h ≡ false → planOf h ws l ≡ planned p
     → TooWideExactly (h .«initial_k») (instructionsOf ws) (p .wholeWorks)
 unfolding planFrom
-too-wide-exactly limit h ws l p read e =
-    let a = accepted limit h ws l p read e in
+too-wide-exactly h ws l p read e =
+    let a = accepted h ws l p read e in
     let k = h .«initial_k» in
     let u = a .last in
     let tracked = start-tracked k in

@@ -28,7 +28,7 @@ use Rattle.records.proofs.Laws.{instructions-length, instruction-at}
 use Rattle.definition.specs.Lists.{removeAt, concat}
 use Rattle.definition.specs.Components.{localMask, allocatedFor}
 use Rattle.definition.specs.Walk.{Walk, joinOf, localAction, flagWord, bitsWord, pairWords, rowHead, rotationRow, measurementRow, start, noStep, ignoredStep, promotionStep, rotationStep, measurementStep}
-use Rattle.definition.specs.Plan.{Lengths, Plan, planned, unread, unreadPlan, planFrom, forDensePeak, planOf}
+use Rattle.definition.specs.Plan.{Lengths, Plan, planned, unread, unreadPlan, planFrom, maxDimension, forDensePeak, planOf}
 use Rattle.definition.specs.Connectivity.{ActiveOrder, activeStart, activeStep}
 use Rattle.definition.specs.Laws.{Words, PlanWords, PlanCounts}
 use Rattle.definition.proofs.Counting.{member-at, place-below}
@@ -37,7 +37,7 @@ use Rattle.definition.proofs.LocalBits.{local-below}
 use Rattle.definition.proofs.Invariant.{source-below}
 use Rattle.definition.proofs.Tracking.{Tracked, activeOf, tracked-here, target-below, start-tracked, step-tracked}
 use Rattle.definition.proofs.Growth.{concat-more, rowCount, run-grown, extends-length, length-concat, run-rotations, run-measurements, start-wide}
-use Rattle.definition.proofs.Accepted.{accepted}
+use Rattle.definition.proofs.Accepted.{ceiling-passed, accepted}
 use Rattle.definition.proofs.Room.{Narrow, longest-count, steps-count, run-components, start-components, component-count, rows-most, merges-most, peak-below, passed-narrow, passed-promotions, or-false}
 use Rattle.definition.proofs.Sizes.{reached-longest}
 
@@ -369,11 +369,11 @@ record Made (limit initial n : ℕ) (p : Plan) : Type 0 where
   plan-is : p ≡ planFrom initial densePeak last
 
 -- a plan that read nothing is made from a walk over no records
-unread-made : (limit : ℕ) (h : Head) (ws : List ℕ) (l : Lengths) (p : Plan) → unread h ≡ true → planOf limit h ws l ≡ planned p → Made limit (h .«initial_k») (length ws / 8) p
-unfolding planOf unreadPlan
-unread-made limit h ws l p u = go (dimension limit (h .«max_k»)) refl
+unread-made : (h : Head) (ws : List ℕ) (l : Lengths) (p : Plan) → unread h ≡ true → planOf h ws l ≡ planned p → Made (h .ceiling) (h .«initial_k») (length ws / 8) p
+unfolding unreadPlan
+unread-made h ws l p u e = go (maxDimension h) refl (ceiling-passed h ws l p e .1)
   where
-    go : (d : Option ℕ) → dimension limit (h .«max_k») ≡ d → forDensePeak limit h ws l d ≡ planned p → Made limit (h .«initial_k») (length ws / 8) p
+    go : (d : Option ℕ) → dimension (h .ceiling) (h .«max_k») ≡ d → forDensePeak h ws l d ≡ planned p → Made (h .ceiling) (h .«initial_k») (length ws / 8) p
     go none f e = let z : _≡_ {A = ℕ} 0 1 = cc in absurd (omega arith)
     go (some densePeak) f e =
         let g : planned (unreadPlan (h .«initial_k») densePeak) ≡ planned p = sym (cond-yes (unread h) _ _ u) ∙ e in
@@ -388,15 +388,15 @@ unread-made limit h ws l p u = go (dimension limit (h .«max_k»)) refl
           short = omega arith;
           within = omega arith;
           few = let c = start-components 0 in omega arith;
-          dense-word = dimension-word limit (h .«max_k») densePeak f;
+          dense-word = dimension-word (h .ceiling) (h .«max_k») densePeak f;
           plan-is = same;
         }
 
 -- every other from that over its records
-read-made : (limit : ℕ) (h : Head) (ws : List ℕ) (l : Lengths) (p : Plan) → unread h ≡ false → planOf limit h ws l ≡ planned p → Made limit (h .«initial_k») (length ws / 8) p
-read-made limit h ws l p u e =
+read-made : (h : Head) (ws : List ℕ) (l : Lengths) (p : Plan) → unread h ≡ false → planOf h ws l ≡ planned p → Made (h .ceiling) (h .«initial_k») (length ws / 8) p
+read-made h ws l p u e =
     let k = h .«initial_k» in
-    let a = accepted limit h ws l p u e in
+    let a = accepted h ws l p u e in
     let words = ltb-false 8192 (length ws) (or-false (not (eqb (length ws % 8) 0)) (ltb 8192 (length ws)) (a .words) .1) in
     let count = component-count k (a .run) in
     let most = passed-promotions k ws (a .initial-small) (a .passed) in record {
@@ -410,17 +410,17 @@ read-made limit h ws l p u e =
       short = let n = instructions-length ws in omega arith;
       within = let n = instructions-length ws in omega arith;
       few = omega arith;
-      dense-word = dimension-word limit (h .«max_k») (a .densePeak) (a .dimension-given);
+      dense-word = dimension-word (h .ceiling) (h .«max_k») (a .densePeak) (a .dimension-given);
       plan-is = a .plan-is;
     }
 
 -- so is every plan
-plan-made : (limit : ℕ) (h : Head) (ws : List ℕ) (l : Lengths) (p : Plan) → planOf limit h ws l ≡ planned p → Made limit (h .«initial_k») (length ws / 8) p
-plan-made limit h ws l p e = go (unread h) refl
+plan-made : (h : Head) (ws : List ℕ) (l : Lengths) (p : Plan) → planOf h ws l ≡ planned p → Made (h .ceiling) (h .«initial_k») (length ws / 8) p
+plan-made h ws l p e = go (unread h) refl
   where
-    go : (t : Bool) → unread h ≡ t → Made limit (h .«initial_k») (length ws / 8) p
-    go true u = unread-made limit h ws l p u e
-    go false u = read-made limit h ws l p u e
+    go : (t : Bool) → unread h ≡ t → Made (h .ceiling) (h .«initial_k») (length ws / 8) p
+    go true u = unread-made h ws l p u e
+    go false u = read-made h ws l p u e
 
 module _ {limit initial n : ℕ} {p : Plan} (m : Made limit initial n p) where
   -- few records make few of everything
@@ -442,7 +442,7 @@ module _ {limit initial n : ℕ} {p : Plan} (m : Made limit initial n p) where
       let w = made-worded in record {
         steps = w .steps;
         merges = w .merges;
-        sizes = words-each (m .last .longest) λ i h. let b = reached-longest (m .start-size) (m .run) i in omega arith;
+        sizes = words-each (m .last .longest) λ i h. let b = reached-longest 64 (omega arith) (omega arith) (m .start-size) (m .run) i in omega arith;
         rotations = w .rotations;
         promotions = w .promotions;
         measurements = w .measurements;
@@ -480,16 +480,16 @@ module _ {limit initial n : ℕ} {p : Plan} (m : Made limit initial n p) where
   made-fits = (made-worded .dense, made-worded .component)
 
 -- every word of an accepted plan is below 2 ^ 64; initial_k is copied, also where nothing is read
-pub plan-words : (limit : ℕ) (h : Head) (ws : List ℕ) (l : Lengths) (p : Plan) → h .«initial_k» < 2 ^ 64 → planOf limit h ws l ≡ planned p → PlanWords p
-plan-words limit h ws l p small e = let m = plan-made limit h ws l p e in subst PlanWords (sym (m .plan-is)) (made-words m small)
+pub plan-words : (h : Head) (ws : List ℕ) (l : Lengths) (p : Plan) → h .«initial_k» < 2 ^ 64 → planOf h ws l ≡ planned p → PlanWords p
+plan-words h ws l p small e = let m = plan-made h ws l p e in subst PlanWords (sym (m .plan-is)) (made-words m small)
 
 -- and binary64 holds its works, so that they come back from their bits
-pub works-fit : (limit : ℕ) (h : Head) (ws : List ℕ) (l : Lengths) (p : Plan) → planOf limit h ws l ≡ planned p
+pub works-fit : (h : Head) (ws : List ℕ) (l : Lengths) (p : Plan) → planOf h ws l ≡ planned p
     → T (fits binary64 (p .denseWork)) × T (fits binary64 (p .componentWork))
-works-fit limit h ws l p e =
-    let m = plan-made limit h ws l p e in
+works-fit h ws l p e =
+    let m = plan-made h ws l p e in
     subst (λ (q : Plan). FloatFits (q .denseWork) × FloatFits (q .componentWork)) (sym (m .plan-is)) (made-fits m)
 
 -- rows and steps are whole, and there are few of each
-pub plan-counts : (limit : ℕ) (h : Head) (ws : List ℕ) (l : Lengths) (p : Plan) → planOf limit h ws l ≡ planned p → PlanCounts (length ws / 8) p
-plan-counts limit h ws l p e = let m = plan-made limit h ws l p e in subst (PlanCounts (length ws / 8)) (sym (m .plan-is)) (made-counts m)
+pub plan-counts : (h : Head) (ws : List ℕ) (l : Lengths) (p : Plan) → planOf h ws l ≡ planned p → PlanCounts (length ws / 8) p
+plan-counts h ws l p e = let m = plan-made h ws l p e in subst (PlanCounts (length ws / 8)) (sym (m .plan-is)) (made-counts m)

@@ -24,7 +24,7 @@ abbrev one : ℕ
 one = 0x3FF0_0000_0000_0000
 
 abbrev head : Head
-head = record { «initial_k» = 4; «max_k» = 8; nexpvals = 0 }
+head = record { «initial_k» = 4; «max_k» = 8; nexpvals = 0; ceiling = 62 }
 
 abbrev words : List ℕ
 words =
@@ -74,12 +74,12 @@ plan = record {
   groups = 2 ∷ 0 ∷ 2 ∷ 2 ∷ 3 ∷ 4 ∷ [];
 }
 
-pub premise : planOf 62 head words (enough 10) ≡ planned plan
+pub premise : planOf head words (enough 10) ≡ planned plan
 unfolding planOf
 premise = refl
 
 pub worked : (m : ℕ) → m ≤ length (instructionsOf words) → Connected 4 (instructionsOf words) plan m
-worked m h = connected 62 head words (enough 10) plan premise (omega arith) refl m h
+worked m h = connected head words (enough 10) plan premise (omega arith) refl m h
 
 -- ---- the figures, after 0 to 10 records
 

@@ -33,12 +33,12 @@ answerWords (refusedAt number index) = (number ∷ index ∷ []) ∷ []
 abbrev pub enough : ℕ → Lengths
 enough n = record { steps = 2 * n; merges = n + 512; sizes = 512; rotations = 21 * n; promotions = n; measurements = 19 * n; groups = 1024 }
 
--- what planning gives for a circuit, at 01's limit
+-- what planning gives for a circuit; 02, CR 4: "01's circuits have ceiling 62"
 unfoldable pub answerOf : Circuit → List (List ℕ)
 unfolding planOf answerWords
 answerOf c =
     answerWords
-    (planOf 62 (record { «initial_k» = c .initial; «max_k» = c .maxK; nexpvals = c .expectations }) (c .words) (enough (length (c .words) / 8)))
+    (planOf (record { «initial_k» = c .initial; «max_k» = c .maxK; nexpvals = c .expectations; ceiling = 62 }) (c .words) (enough (length (c .words) / 8)))
 
 unfoldable pub circuits : List Circuit
 circuits =

@@ -1,20 +1,23 @@
 -- Laws that hold of every state the walk reaches and of every plan: works are numbers or infinite, never negative; whole works are given exactly where
 -- the width never passes 38, and there the float works are these numbers; the states that the Rust guards against never occur; the outputs fit the
--- lent buffers; and every word of a plan is below 2 ^ 64.
+-- lent buffers; every word of a plan is below 2 ^ 64; every component has its dimension under the ceiling; and which ceilings a plan has.
 use Prim.Native.Nat.{ℕ, _+_, _*_, _%_, _^_, _≤_, _<_}
 use mathlib.Core.Path.{_≡_}
 use mathlib.Core.List.{List, [], _∷_}
 use mathlib.Core.Bool.{Bool}
+use mathlib.Core.Option.{some}
 use lib.IntN.{ℤ, pos}
 use lib.ListN.{length, getD, take}
 use lib.Ieee.{Float, inf, fin, binary64, ofInt, toBits}
 use lib.Ieee.Exact.{HasValue}
+use Rattle.kernels.specs.Bits.{dimension}
+use Rattle.records.specs.declared.Head.{Head}
 use Rattle.records.specs.declared.Instruction.{Instruction}
 use Rattle.definition.specs.Components.{membersOf, sizeOf}
 use Rattle.definition.specs.WholeWorks.{WholeWorks, tooWide, withoutQuotient, withQuotient}
 use Rattle.definition.specs.Walk.{Walk, Written, bitsWord, joinOf}
 use Rattle.definition.specs.Plan.{Plan, Lengths}
-use Rattle.definition.specs.Connectivity.{Member, activeStart, activeAfter}
+use Rattle.definition.specs.Connectivity.{Member, activeStart, activeAfter, replayAfter, replayJoined}
 
 -- neither a NaN nor negative; 0 is +0
 pub data NonNegative : Float → Type 0 where
@@ -110,3 +113,27 @@ pub record PlanCounts (n : ℕ) (p : Plan) : Type 0 where
   pub measurements : length (p .measurements) % 19 ≡ 0
   pub most : length (p .steps) + length (p .merges) + length (p .sizes) + length (p .rotations) + length (p .promotions) + length (p .measurements) ≤ 24 * n + 1023
   pub few : length (p .steps) + length (p .merges) + length (p .sizes) + length (p .rotations) + length (p .promotions) + length (p .measurements) ≤ 24 * 1024 + 1023
+
+-- ---- 02, CR 4
+
+-- so many members have a dimension, which is the power of two
+abbrev pub HasDimension : ℕ → ℕ → Type 0
+HasDimension ceiling size = dimension ceiling size ≡ some (2 ^ size)
+
+-- "Everything that asks for a dimension follows: kernels, live sums, allocation". Of a plan of n records that were read: the components after each record (whose powers
+-- the live dimension adds up), just after each join (whose power the record's kernel halves), and at their longest (whose powers are allocated)
+pub record HasDimensions (ceiling n : ℕ) (p : Plan) : Type 0 where
+  pub live : (m c : ℕ) → m ≤ n → HasDimension ceiling (length (replayAfter p m c))
+  pub joined : (m c : ℕ) → m < n → HasDimension ceiling (length (replayJoined p m (replayAfter p m) c))
+  pub longest : (c : ℕ) → HasDimension ceiling (getD (p .sizes) c 0)
+
+-- the same program on a controller of another ceiling
+abbrev pub under : ℕ → Head → Head
+under ceiling h = record { «initial_k» = h .«initial_k»; «max_k» = h .«max_k»; nexpvals = h .nexpvals; ceiling = ceiling }
+
+-- what a ceiling asks of a program that has a plan: 24, 1 and 14 do not refuse it
+pub record HoldsPlan (ceiling : ℕ) (h : Head) (p : Plan) : Type 0 where
+  pub least : 1 ≤ ceiling
+  pub most : ceiling ≤ 62
+  pub max-below : h .«max_k» < ceiling
+  pub sizes-below : (c : ℕ) → getD (p .sizes) c 0 < ceiling

@@ -1,5 +1,5 @@
 -- The plan of an input: refusals 1 to 4, the record pass, the walk, the choice and the outputs. Written from 01, sections 4 and 6, and "Where planning stops"; the
--- whole works are 02's, CR 1.
+-- whole works are 02's, CR 1, and the ceiling is 02's, CR 4.
 use Prim.Native.Nat.{ℕ, suc, _+_, _-_, _*_, _/_, _%_}
 use mathlib.Core.List.{List, [], _∷_, _++_}
 use mathlib.Core.Bool.{Bool, true, false, cond, not, _&&_, _||_}
@@ -151,20 +151,35 @@ abbrev pub refuseAll : Bool → ℕ → Result → Result
 refuseAll true number rest = refusedAt number 0
 refuseAll false number rest = rest
 
-unfoldable pub planRead : ℕ → Head → List ℕ → Lengths → ℕ → Result
+-- 02, CR 4: "The record pass keeps its width of 62": it reads no ceiling
+abbrev pub passOf : Head → List ℕ → Checked
+passOf h ws = recordPass (h .«initial_k») ws
+
+unfoldable pub planRead : Head → List ℕ → Lengths → ℕ → Result
 unfolding walkFrom start planFrom recordPass instructionsOf
-planRead limit h ws l densePeak =
+planRead h ws l densePeak =
     refuseAll (wordsRefused ws) 2
     (refuseAll (buffersRefused (length ws / 8) l) 3
     (refuseAll (ltb 512 (h .«initial_k»)) 4
-    (afterPass limit (h .«initial_k») densePeak ws (recordPass (h .«initial_k») ws))))
+    (afterPass (h .ceiling) (h .«initial_k») densePeak ws (passOf h ws))))
 
--- 1: "max_k >= 62", the limit
-abbrev pub forDensePeak : ℕ → Head → List ℕ → Lengths → Option ℕ → Result
-forDensePeak limit h ws l none = refusedAt 1 0
-forDensePeak limit h ws l (some densePeak) = cond (unread h) (planned (unreadPlan (h .«initial_k») densePeak)) (planRead limit h ws l densePeak)
+-- "2^max_k"; none from the ceiling on
+abbrev pub maxDimension : Head → Option ℕ
+maxDimension h = dimension (h .ceiling) (h .«max_k»)
 
--- what planning gives for a head, the record words and the lengths of the lent buffers, at a dimension limit, which 01 puts at 62
-unfoldable pub planOf : ℕ → Head → List ℕ → Lengths → Result
+-- 1: "max_k >= 62"; 02, CR 4: "Condition 1 reads the ceiling where it reads 62"
+abbrev pub forDensePeak : Head → List ℕ → Lengths → Option ℕ → Result
+forDensePeak h ws l none = refusedAt 1 0
+forDensePeak h ws l (some densePeak) = cond (unread h) (planned (unreadPlan (h .«initial_k») densePeak)) (planRead h ws l densePeak)
+
+-- 24: 02, CR 4: "A ceiling outside 1 to 62"
+abbrev pub ceilingRefused : Head → Bool
+ceilingRefused h = ltb (h .ceiling) 1 || ltb 62 (h .ceiling)
+
+-- What planning gives for a head, the record words and the lengths of the lent buffers. 02, CR 4: "gives 24, before 1". The head's ceiling is where a width has no
+-- dimension any more. It is asked for max_k and for the members of each join, and so for each kernel. Start and promotions ask for none: they make components of
+-- one member alone, and a program that is read has a max_k of at least 8, so a ceiling of at least 9. Live sums and allocation add up components that such a join
+-- or such a start made, so each has its dimension (`Laws.HasDimensions`)
+unfoldable pub planOf : Head → List ℕ → Lengths → Result
 unfolding planRead unreadPlan dimension
-planOf limit h ws l = forDensePeak limit h ws l (dimension limit (h .«max_k»))
+planOf h ws l = refuseAll (ceilingRefused h) 24 (forDensePeak h ws l (maxDimension h))

@@ -138,7 +138,7 @@ abbrev pub isNone : Option ℕ → Bool
 isNone none = true
 isNone (some n) = false
 
--- 14: "a component of 62", the limit
+-- 14: "a component of 62"; 02, CR 4: "a component whose size is the ceiling or more"
 abbrev pub tooLarge : ℕ → Join → Bool
 tooLarge limit j = isNone (dimension limit (length (j .members)))
 

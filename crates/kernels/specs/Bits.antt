@@ -31,7 +31,7 @@ withoutBit x p = x - bitAt x p * 2 ^ p
 abbrev pub exp2 : ℕ → Float
 exp2 k = cond (leb k 1023) (fin false 1 (pos k)) (inf false)
 
--- 01, refusals 1 and 14: the dimension of k coordinates is 2 ^ k below the limit, which 01 puts at 62. A word holds none from 2 ^ 64 on
+-- 01, refusals 1 and 14: the dimension of k coordinates is 2 ^ k below the limit: 62 in 01, and the head's ceiling since 02's CR 4. A word holds none from 2 ^ 64 on
 unfoldable pub dimension : ℕ → ℕ → Option ℕ
 dimension limit k = cond (ltb k (min limit 64)) (some (2 ^ k)) none
 

@@ -1,13 +1,32 @@
--- What the contracts of the crate `lent` say: refusals 2 to 4, and what the seven buffers hold once the words behind the used ones, or all, are zeroed.
+-- What the contracts of the crate `lent` say: refusals 24 and 1 to 4, and what the seven buffers hold once the words behind the used ones, or all, are zeroed.
 use Prim.Native.Nat.{ℕ, _-_, _*_, _%_, _^_, _<_}
 use mathlib.Core.Path.{_≡_}
 use mathlib.Core.List.{List, _++_}
 use mathlib.Core.Bool.{Bool, cond, not, _||_}
+use mathlib.Core.Option.{Option, some, none}
 use lib.Dec.{eqb, ltb}
 use lib.ListN.{length, take, replicate}
-use Rattle.definition.specs.Plan.{Result, heldAfter}
+use Rattle.kernels.specs.Active.{Answer, given, refused}
+use Rattle.records.specs.declared.Head.{Head}
+use Rattle.definition.specs.Plan.{Result, heldAfter, maxDimension, ceilingRefused}
 use Rattle.walk.specs.Walking.{Buffers}
 use Rattle.walk.specs.declared.Summary.{Summary}
+use Rattle.lent.specs.declared.DensePeak.{DensePeak}
+use Rattle.lent.specs.declared.DensePeak.the-variants.{Given, Refused}
+
+-- 1: "max_k >= 62", which is the ceiling since 02's CR 4; else the dense peak
+abbrev pub peakAnswer : Option ℕ → Answer ℕ
+peakAnswer none = refused 1
+peakAnswer (some densePeak) = given densePeak
+
+-- 02, CR 4: "A ceiling outside 1 to 62 gives 24, before 1"
+abbrev pub headAnswer : Head → Answer ℕ
+headAnswer h = cond (ceilingRefused h) (refused 24) (peakAnswer (maxDimension h))
+
+-- what an answer of `dense_peak` says
+abbrev pub densePeakOf : DensePeak → Answer ℕ
+densePeakOf (Given densePeak) = given densePeak
+densePeakOf (Refused number) = refused number
 
 -- refusals 2 to 4, or 0: "2: record words no multiple of 8, or over 8,192"; 3 where a buffer is short; "4: initial_k > 512"
 abbrev pub lentNumber : ℕ → ℕ → Bool → ℕ

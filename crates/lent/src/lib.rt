@@ -1,11 +1,42 @@
-// What the entry asks before the walk and does after it: whether the lent buffers are long enough, refusals 2 to 4, zeros
-// behind the used words or everywhere, and the choice.
+// What the entry asks before the walk and does after it: the head's dense peak or refusal 24 or 1, whether the lent buffers
+// are long enough, refusals 2 to 4, zeros behind the used words or everywhere, and the choice.
 ghost use mathlib.Core.Path.{_≡_};
 ghost use Prim.Native.Nat.{_<_, _^_};
 ghost use Rattle.definition.specs.Plan.{chosen, buffersRefused, refusedAt};
-ghost use Rattle.lent.specs.Lent.{Held, lentNumber, UsedFit, RestCleared};
+ghost use Rattle.lent.specs.Lent.{headAnswer, densePeakOf, Held, lentNumber, UsedFit, RestCleared};
+use kernels::bits::ActiveLength;
+use kernels::bits::active_length;
 use outputs::buffers::clear_from;
+use records::Head;
 use walk::Summary;
+
+// The largest ceiling that a head may have.
+const LARGEST_CEILING: u64 = 62;
+
+// What the head alone decides: the dense peak, or a refusal's number.
+pub enum DensePeak {
+    Given(u64),
+    Refused(u64),
+}
+
+// The dense peak of a head, or refusal 24 or 1.
+pub fn dense_peak(head: Head) -> DensePeak
+    ensures { λ r. ⌜ densePeakOf r ≡ headAnswer head ⌝ }
+{
+    let max_k = head.max_k;
+    let ceiling = head.ceiling;
+    if ceiling < 1 {
+        return DensePeak::Refused(24);
+    }
+    if LARGEST_CEILING < ceiling {
+        return DensePeak::Refused(24);
+    }
+    let length = active_length(max_k, ceiling);
+    match length {
+        ActiveLength::TooLarge => DensePeak::Refused(1),
+        ActiveLength::Length(dense_peak) => DensePeak::Given(dense_peak),
+    }
+}
 
 // Whether one of the buffers is too short for n records.
 pub fn buffers_short(

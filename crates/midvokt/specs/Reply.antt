@@ -1,4 +1,4 @@
--- What the contract of `midvokt_plan` says: its answer, the words of `result`, and the seven buffers, for 01's definition at the limit 62.
+-- What the contract of `midvokt_plan` says: its answer, the words of `result`, and the seven buffers, for the definition.
 use Prim.Native.Nat.{ℕ}
 use mathlib.Core.Path.{_≡_}
 use mathlib.Core.List.{List, [], _∷_, map}
@@ -28,6 +28,6 @@ abbrev pub laidOut : ℕ → List ℕ → List ℕ
 laidOut n ws = map (λ i. getD ws i 0) (numbersFrom 0 n)
 
 pub record Replies (h : Head) (ws : List ℕ) (before after : Buffers) (lent filled : List ℕ) (r : ℕ) : Type 0 where
-  pub number : r ≡ numberOf (outcomeIn (planOf 62 h ws (lengthsOf before)))
-  pub result : filled ≡ laidOut (length lent) (wordsOf (outcomeIn (planOf 62 h ws (lengthsOf before))))
-  pub held : Held (planOf 62 h ws (lengthsOf before)) before after
+  pub number : r ≡ numberOf (outcomeIn (planOf h ws (lengthsOf before)))
+  pub result : filled ≡ laidOut (length lent) (wordsOf (outcomeIn (planOf h ws (lengthsOf before))))
+  pub held : Held (planOf h ws (lengthsOf before)) before after

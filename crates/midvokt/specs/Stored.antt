@@ -1,5 +1,4 @@
--- What the contracts of `midvokt_store` and `midvokt_load` say: what they return, the words of `result`, the buffers and the file, for 02's definition, CR 2, at the
--- limit 62.
+-- What the contracts of `midvokt_store` and `midvokt_load` say: what they return, the words of `result`, the buffers and the file, for 02's definition, CR 2.
 use Prim.Native.Nat.{ℕ}
 use mathlib.Core.Path.{_≡_}
 use mathlib.Core.List.{List, [], _∷_, _++_}
@@ -29,10 +28,10 @@ storeWords (Storing.written n) = 0 ∷ n ∷ []
 storeWords (Storing.turnedAway number index) = index ∷ 0 ∷ []
 
 pub record StoreReplies (h : Head) (ws : List ℕ) (before after : Buffers) (file filed lent filled : List ℕ) (r : ℕ) : Type 0 where
-  pub number : r ≡ storeNumber (Storing.outcomeIn (storeOf 62 h ws (lengthsOf before) (length file)))
-  pub result : filled ≡ laidOut (length lent) (storeWords (Storing.outcomeIn (storeOf 62 h ws (lengthsOf before) (length file))))
-  pub held : Held (storeOf 62 h ws (lengthsOf before) (length file)) before after
-  pub bytes : filed ≡ heldAfter (length file) fileOf (storeOf 62 h ws (lengthsOf before) (length file))
+  pub number : r ≡ storeNumber (Storing.outcomeIn (storeOf h ws (lengthsOf before) (length file)))
+  pub result : filled ≡ laidOut (length lent) (storeWords (Storing.outcomeIn (storeOf h ws (lengthsOf before) (length file))))
+  pub held : Held (storeOf h ws (lengthsOf before) (length file)) before after
+  pub bytes : filed ≡ heldAfter (length file) fileOf (storeOf h ws (lengthsOf before) (length file))
 
 -- ---- reading
 

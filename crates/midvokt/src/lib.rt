@@ -103,6 +103,7 @@ pub extern "C" fn midvokt_plan(
     initial_k: u64,
     max_k: u64,
     nexpvals: u64,
+    ceiling: u64,
     records: &[u64],
     steps: &mut [u64],
     merges: &mut [u64],
@@ -113,12 +114,13 @@ pub extern "C" fn midvokt_plan(
     groups: &mut [u64],
     result: &mut [u64],
 ) -> u64
-    ensures { λ r. ⌜ Replies (record { «initial_k» = «initial_k»; «max_k» = «max_k»; nexpvals = nexpvals }) (now (records .entry)) (record { steps = now (steps .entry); merges = now (merges .entry); sizes = now (sizes .entry); rotations = now (rotations .entry); promotions = now (promotions .entry); measurements = now (measurements .entry); groups = now (groups .entry) }) (record { steps = now (steps .exit); merges = now (merges .exit); sizes = now (sizes .exit); rotations = now (rotations .exit); promotions = now (promotions .exit); measurements = now (measurements .exit); groups = now (groups .exit) }) (now (result .entry)) (now (result .exit)) r ⌝ }
+    ensures { λ r. ⌜ Replies (record { «initial_k» = «initial_k»; «max_k» = «max_k»; nexpvals = nexpvals; ceiling = ceiling }) (now (records .entry)) (record { steps = now (steps .entry); merges = now (merges .entry); sizes = now (sizes .entry); rotations = now (rotations .entry); promotions = now (promotions .entry); measurements = now (measurements .entry); groups = now (groups .entry) }) (record { steps = now (steps .exit); merges = now (merges .exit); sizes = now (sizes .exit); rotations = now (rotations .exit); promotions = now (promotions .exit); measurements = now (measurements .exit); groups = now (groups .exit) }) (now (result .entry)) (now (result .exit)) r ⌝ }
 {
     let head = Head {
         initial_k,
         max_k,
         nexpvals,
+        ceiling,
     };
     let planned = build_active_component_plan(
         head,

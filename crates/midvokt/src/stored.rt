@@ -91,6 +91,7 @@ pub extern "C" fn midvokt_store(
     initial_k: u64,
     max_k: u64,
     nexpvals: u64,
+    ceiling: u64,
     records: &[u64],
     steps: &mut [u64],
     merges: &mut [u64],
@@ -102,12 +103,13 @@ pub extern "C" fn midvokt_store(
     file: &mut [u8],
     result: &mut [u64],
 ) -> u64
-    ensures { λ r. ⌜ StoreReplies (record { «initial_k» = «initial_k»; «max_k» = «max_k»; nexpvals = nexpvals }) (now (records .entry)) (record { steps = now (steps .entry); merges = now (merges .entry); sizes = now (sizes .entry); rotations = now (rotations .entry); promotions = now (promotions .entry); measurements = now (measurements .entry); groups = now (groups .entry) }) (record { steps = now (steps .exit); merges = now (merges .exit); sizes = now (sizes .exit); rotations = now (rotations .exit); promotions = now (promotions .exit); measurements = now (measurements .exit); groups = now (groups .exit) }) (now (file .entry)) (now (file .exit)) (now (result .entry)) (now (result .exit)) r ⌝ }
+    ensures { λ r. ⌜ StoreReplies (record { «initial_k» = «initial_k»; «max_k» = «max_k»; nexpvals = nexpvals; ceiling = ceiling }) (now (records .entry)) (record { steps = now (steps .entry); merges = now (merges .entry); sizes = now (sizes .entry); rotations = now (rotations .entry); promotions = now (promotions .entry); measurements = now (measurements .entry); groups = now (groups .entry) }) (record { steps = now (steps .exit); merges = now (merges .exit); sizes = now (sizes .exit); rotations = now (rotations .exit); promotions = now (promotions .exit); measurements = now (measurements .exit); groups = now (groups .exit) }) (now (file .entry)) (now (file .exit)) (now (result .entry)) (now (result .exit)) r ⌝ }
 {
     let head = Head {
         initial_k,
         max_k,
         nexpvals,
+        ceiling,
     };
     let stored = store(
         head,

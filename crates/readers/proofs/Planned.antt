@@ -160,19 +160,19 @@ walk-on limit index (suc m) s u (i ∷ is) whole = go (step limit s i) whole (λ
 -- ---- the law
 
 -- each record finds the definition's walk in a state, and the steps, rows and parts that are read from a call's buffers are what the walk gave for it there
-pub planned-back : (limit : ℕ) (h : Head) (ws : List ℕ) (before after : Buffers) (r : ActiveComponentPlan) → Answers limit h ws before after (P.Plan r) → unread h ≡ false
+pub planned-back : (h : Head) (ws : List ℕ) (before after : Buffers) (r : ActiveComponentPlan) → Answers h ws before after (P.Plan r) → unread h ≡ false
     → (i : ℕ) → i < length (instructionsOf ws)
-    → (w : Walk) × (walkFrom limit 0 (start (h .«initial_k»)) (take i (instructionsOf ws)) ≡ finished w) × GivenBack limit w (getD (instructionsOf ws) i DormantBranch) i after
+    → (w : Walk) × (walkFrom (h .ceiling) 0 (start (h .«initial_k»)) (take i (instructionsOf ws)) ≡ finished w) × GivenBack (h .ceiling) w (getD (instructionsOf ws) i DormantBranch) i after
 unfolding planFrom
-planned-back limit h ws before after r answers read i below =
+planned-back h ws before after r answers read i below =
     let is = instructionsOf ws in
     let k = h .«initial_k» in
-    let found = planned-pads (planOf limit h ws (lengthsOf before)) before after r (answers .answer) (answers .held) in
-    let plan = accepted limit h ws (lengthsOf before) (found .0) read (found .1) in
+    let found = planned-pads (planOf h ws (lengthsOf before)) before after r (answers .answer) (answers .held) in
+    let plan = accepted h ws (lengthsOf before) (found .0) read (found .1) in
     let pads = subst (λ (p : Plan). Pads p (planIn r after)) (plan .plan-is) (found .2) in
-    let on = walk-on limit 0 i (start k) (plan .last) is (plan .walked) in
+    let on = walk-on (h .ceiling) 0 i (start k) (plan .last) is (plan .walked) in
     let w = on .0 in
-    let front = run-of-walk limit 0 (start k) w (take i is) (on .1) in
+    let front = run-of-walk (h .ceiling) 0 (start k) w (take i is) (on .1) in
     let held : Holds (plan .last .written) after = record {
       steps = (_, pads .steps .1);
       merges = (_, pads .merges .1);
@@ -184,7 +184,7 @@ planned-back limit h ws before after r answers read i below =
     let taken = length-take-le i is (omega arith) in (
       w,
       on .1,
-      run-given-back (plan .last) after held i (subst (λ (l : List Instruction). Run limit w l (plan .last)) (drop-cons is i DormantBranch below) (on .2))
+      run-given-back (plan .last) after held i (subst (λ (l : List Instruction). Run (h .ceiling) w l (plan .last)) (drop-cons is i DormantBranch below) (on .2))
           (instruction-floats ws i below) (omega arith) (run-rotations front (start-wide k 21 .0)) (run-measurements front (start-wide k 19 .1)),
     )
 

@@ -7,11 +7,12 @@ ghost use lib.Ieee.Scale.{finite};
 ghost use Rattle.records.specs.Record.{wordOf, recordAt, instructionOf, measurementOf};
 ghost use Rattle.records.specs.Pass.{withinOne, actionNumber, floatsNumber, rotationNumber, measurementNumber, numberOf, recordPass};
 
-// The head of a program (01, section 2).
+// The head of a program (01, section 2; the ceiling: 02, CR 4).
 pub struct Head {
     pub initial_k: u64,
     pub max_k: u64,
     pub nexpvals: u64,
+    pub ceiling: u64,
 }
 
 // A decoded record (01, section 2). An expectation is a measurement with flag 1.

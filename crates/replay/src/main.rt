@@ -85,11 +85,11 @@ fn holds(buffer: &[u64], used: &[u64]) -> bool
 }
 
 // Whether the records or a buffer have more words than an array here.
-fn too_long(head: &[u64; 11]) -> bool
+fn too_long(head: &[u64; 12]) -> bool
     ensures { λ r. ⌜ (r ≡ false → HasRoom (now (head .entry))) ⌝ }
 {
-    let mut i: usize = 3;
-    while i < 11 {
+    let mut i: usize = 4;
+    while i < 12 {
         if 4096 < head[i] {
             return true;
         }
@@ -99,8 +99,8 @@ fn too_long(head: &[u64; 11]) -> bool
 }
 
 // The length at a place of the head: that of the records, or of a buffer.
-fn length_at(head: &[u64; 11], at: usize) -> usize
-    requires { ⌜ (3 ≤ at) × (at < 11) ⌝ ∗ ⌜ HasRoom (now head) ⌝ }
+fn length_at(head: &[u64; 12], at: usize) -> usize
+    requires { ⌜ (4 ≤ at) × (at < 12) ⌝ ∗ ⌜ HasRoom (now head) ⌝ }
     ensures { λ r. ⌜ (r ≡ getD (now (head .entry)) at 0) × (r ≤ 4096) ⌝ }
 {
     head[at] as usize
@@ -138,7 +138,7 @@ fn compare_answer(number: u64, result: &[u64; 14]) -> Found {
 
 // Plans a program into the buffers, and compares the answer and every word of each buffer.
 fn plan_and_compare(
-    head: &[u64; 11],
+    head: &[u64; 12],
     records: &[u64],
     steps: &mut [u64],
     merges: &mut [u64],
@@ -153,6 +153,7 @@ fn plan_and_compare(
         head[0],
         head[1],
         head[2],
+        head[3],
         records,
         steps,
         merges,
@@ -174,7 +175,7 @@ fn plan_and_compare(
 }
 
 // Plans into buffers of the lengths that the vector gives, with no zero in them before.
-fn plan_in_buffers(head: &[u64; 11], records: &[u64]) -> Found
+fn plan_in_buffers(head: &[u64; 12], records: &[u64]) -> Found
     requires { ⌜ HasRoom (now head) ⌝ }
 {
     let mut steps = room();
@@ -187,26 +188,26 @@ fn plan_in_buffers(head: &[u64; 11], records: &[u64]) -> Found
     plan_and_compare(
         head,
         records,
-        &mut steps[0..length_at(head, 4)],
-        &mut merges[0..length_at(head, 5)],
-        &mut sizes[0..length_at(head, 6)],
-        &mut rotations[0..length_at(head, 7)],
-        &mut promotions[0..length_at(head, 8)],
-        &mut measurements[0..length_at(head, 9)],
-        &mut groups[0..length_at(head, 10)],
+        &mut steps[0..length_at(head, 5)],
+        &mut merges[0..length_at(head, 6)],
+        &mut sizes[0..length_at(head, 7)],
+        &mut rotations[0..length_at(head, 8)],
+        &mut promotions[0..length_at(head, 9)],
+        &mut measurements[0..length_at(head, 10)],
+        &mut groups[0..length_at(head, 11)],
     )
 }
 
 // Reads the next vector and replays it.
 fn replay_next() -> Found {
-    let mut head = [0u64; 11];
+    let mut head = [0u64; 12];
     if !read_words(&mut head) {
         return Found::CutShort;
     }
     if too_long(&head) {
         return Found::TooLong;
     }
-    let n = length_at(&head, 3);
+    let n = length_at(&head, 4);
     let mut space = room();
     let records = &mut space[0..n];
     if !read_words(records) {

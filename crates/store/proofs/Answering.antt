@@ -41,9 +41,9 @@ frontOf r b = record {
   scalars = scalarsIn r;
 }
 
-module _ (limit : ℕ) (h : Head) (ws : List ℕ) (before between : Buffers) (r : ActiveComponentPlan) (a : Answers limit h ws before between (P.Plan r)) where
-  abbrev it : (p : Plan) × (planOf limit h ws (lengthsOf before) ≡ planned p) × (scalarsIn r ≡ scalarsOf p) × (r .used ≡ usedIn p)
-  it = found (planOf limit h ws (lengthsOf before)) r (a .answer)
+module _ (h : Head) (ws : List ℕ) (before between : Buffers) (r : ActiveComponentPlan) (a : Answers h ws before between (P.Plan r)) where
+  abbrev it : (p : Plan) × (planOf h ws (lengthsOf before) ≡ planned p) × (scalarsIn r ≡ scalarsOf p) × (r .used ≡ usedIn p)
+  it = found (planOf h ws (lengthsOf before)) r (a .answer)
 
   abbrev p : Plan
   p = it .0
@@ -62,7 +62,7 @@ module _ (limit : ℕ) (h : Head) (ws : List ℕ) (before between : Buffers) (r 
 
   pub inside : Inside
   inside =
-      let f = plan-fits-in limit h ws (lengthsOf before) p (it .1) in
+      let f = plan-fits-in h ws (lengthsOf before) p (it .1) in
       let u = it .3 in record {
         steps = subst (λ (c : WordCounts). c .steps ≤ length (before .steps)) (sym u) (f .steps);
         merges = subst (λ (c : WordCounts). c .merges ≤ length (before .merges)) (sym u) (f .merges);
@@ -98,10 +98,10 @@ module _ (limit : ℕ) (h : Head) (ws : List ℕ) (before between : Buffers) (r 
 
   -- a file too short for it
   pub stores-short : (after : Buffers) (file filed : List ℕ) → length file / 8 < wordsFor (r .used) → SameLengths before between → Held (refusedAt 0 0) between after
-      → filed ≡ padded (length file) [] → Stores limit h ws before after file filed (S.Refused 23 0)
+      → filed ≡ padded (length file) [] → Stores h ws before after file filed (S.Refused 23 0)
   stores-short after file filed short same zeros cleared =
       let long = file-length in
-      let refusal : storeOf limit h ws (lengthsOf before) (length file) ≡ refusedAt 23 0 =
+      let refusal : storeOf h ws (lengthsOf before) (length file) ≡ refusedAt 23 0 =
       ap (fitting (length file)) (it .1) ∙ ap (λ (t : Bool). refuseAll t 23 (planned p)) (lt-ltb (length file) (length (fileOf p)) (omega arith)) in record {
         answer = sym (ap outcomeIn refusal);
         held = subst (λ (x : Result). Held x before after) (sym refusal) (zeros-held 0 0 23 0 before between after same zeros);
@@ -110,10 +110,10 @@ module _ (limit : ℕ) (h : Head) (ws : List ℕ) (before between : Buffers) (r 
 
   -- and one that is long enough
   pub stores-file : (file filed : List ℕ) → wordsFor (r .used) ≤ length file / 8 → filed ≡ padded (length file) (bytesOf (frontOf r between))
-      → Stores limit h ws before between file filed (S.File (8 * wordsFor (r .used)))
+      → Stores h ws before between file filed (S.File (8 * wordsFor (r .used)))
   stores-file file filed room written =
       let long = file-length in
-      let plan : storeOf limit h ws (lengthsOf before) (length file) ≡ planned p =
+      let plan : storeOf h ws (lengthsOf before) (length file) ≡ planned p =
       ap (fitting (length file)) (it .1) ∙ ap (λ (t : Bool). refuseAll t 23 (planned p)) (le-ltb (length file) (length (fileOf p)) (omega arith)) in record {
         answer = ap Storing.written (sym long) ∙ sym (ap outcomeIn plan);
         held = subst (λ (x : Result). Held x before between) (sym plan) held;
@@ -122,11 +122,11 @@ module _ (limit : ℕ) (h : Head) (ws : List ℕ) (before between : Buffers) (r 
 
 -- ---- a refusal of planning
 
-pub stores-refused : (limit : ℕ) (h : Head) (ws : List ℕ) (before after : Buffers) (number index : ℕ) (file filed : List ℕ)
-    → Answers limit h ws before after (P.Refused number index) → filed ≡ padded (length file) [] → Stores limit h ws before after file filed (S.Refused number index)
-stores-refused limit h ws before after number index file filed a cleared =
-    let refusal = away (planOf limit h ws (lengthsOf before)) number index (a .answer) in
-    let kept : storeOf limit h ws (lengthsOf before) (length file) ≡ refusedAt number index = ap (fitting (length file)) refusal in record {
+pub stores-refused : (h : Head) (ws : List ℕ) (before after : Buffers) (number index : ℕ) (file filed : List ℕ)
+    → Answers h ws before after (P.Refused number index) → filed ≡ padded (length file) [] → Stores h ws before after file filed (S.Refused number index)
+stores-refused h ws before after number index file filed a cleared =
+    let refusal = away (planOf h ws (lengthsOf before)) number index (a .answer) in
+    let kept : storeOf h ws (lengthsOf before) (length file) ≡ refusedAt number index = ap (fitting (length file)) refusal in record {
       answer = sym (ap outcomeIn kept);
       held = subst (λ (x : Result). Held x before after) (refusal ∙ sym kept) (a .held);
       bytes = cleared ∙ sym (ap (heldAfter (length file) fileOf) kept);

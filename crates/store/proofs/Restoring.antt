@@ -52,11 +52,11 @@ gives-back p file before after r e a =
     }
 
 -- for every accepted program, every buffer and every file that is long enough
-pub call-written : (limit : ℕ) (h : Head) (ws : List ℕ) (before after : Buffers) (file filed : List ℕ) (n : ℕ) → h .«initial_k» < 2 ^ 64
-    → Stores limit h ws before after file filed (S.File n) → (p : Plan) × (planOf limit h ws (Walking.lengthsOf before) ≡ planned p) × Written p filed n
-call-written limit h ws before after file filed n small a =
+pub call-written : (h : Head) (ws : List ℕ) (before after : Buffers) (file filed : List ℕ) (n : ℕ) → h .«initial_k» < 2 ^ 64
+    → Stores h ws before after file filed (S.File n) → (p : Plan) × (planOf h ws (Walking.lengthsOf before) ≡ planned p) × Written p filed n
+call-written h ws before after file filed n small a =
     let l = Walking.lengthsOf before in
-    let it = stored-plan (length file) (planOf limit h ws l) n (a .answer) in
+    let it = stored-plan (length file) (planOf h ws l) n (a .answer) in
     let p = it .0 in
     let bytes : filed ≡ padded (length file) (fileOf p) = a .bytes ∙ ap (heldAfter (length file) fileOf) (it .2) in
     let same = front-of-padded (length file) n (fileOf p) filed (it .3) bytes in (
@@ -65,9 +65,9 @@ call-written limit h ws before after file filed n small a =
       record {
         file = same;
         returned = it .3;
-        trailer = ap (λ (f : List ℕ). trailerWord f 14) same ∙ own-length limit h ws l p small (it .1) ∙ sym (it .3);
+        trailer = ap (λ (f : List ℕ). trailerWord f 14) same ∙ own-length h ws l p small (it .1) ∙ sym (it .3);
         back = λ lent left r long loads.
             gives-back p (take n filed) lent left r
-            (ap (λ (f : List ℕ). readFile f (lengthsOf lent)) same ∙ plan-restored limit h ws l p small (it .1) (lengthsOf lent) long) loads;
+            (ap (λ (f : List ℕ). readFile f (lengthsOf lent)) same ∙ plan-restored h ws l p small (it .1) (lengthsOf lent) long) loads;
       },
     )

@@ -18,8 +18,8 @@ fitting n (planned p) = refuseAll (ltb n (length (fileOf p))) 23 (planned p)
 fitting n (refusedAt number index) = refusedAt number index
 
 -- what storing gives for a head, the record words, the lengths of the lent buffers and that of the file
-abbrev pub storeOf : ℕ → Head → List ℕ → Lengths → ℕ → Result
-storeOf limit h ws l n = fitting n (planOf limit h ws l)
+abbrev pub storeOf : Head → List ℕ → Lengths → ℕ → Result
+storeOf h ws l n = fitting n (planOf h ws l)
 
 -- "The writer returns the file's length", or the refusal's number and record index
 pub data Outcome : Type 0 where
@@ -37,7 +37,7 @@ outcomeIn (planned p) = written (length (fileOf p))
 outcomeIn (refusedAt number index) = turnedAway number index
 
 -- the answer, every buffer and every byte of the file are the definition's: "Unused bytes and words, and after a refusal all outputs and the writer's file, are zero"
-pub record Stores (limit : ℕ) (h : Head) (ws : List ℕ) (before after : Buffers) (file filed : List ℕ) (r : Stored) : Type 0 where
-  pub answer : outcomeOf r ≡ outcomeIn (storeOf limit h ws (lengthsOf before) (length file))
-  pub held : Held (storeOf limit h ws (lengthsOf before) (length file)) before after
-  pub bytes : filed ≡ heldAfter (length file) fileOf (storeOf limit h ws (lengthsOf before) (length file))
+pub record Stores (h : Head) (ws : List ℕ) (before after : Buffers) (file filed : List ℕ) (r : Stored) : Type 0 where
+  pub answer : outcomeOf r ≡ outcomeIn (storeOf h ws (lengthsOf before) (length file))
+  pub held : Held (storeOf h ws (lengthsOf before) (length file)) before after
+  pub bytes : filed ≡ heldAfter (length file) fileOf (storeOf h ws (lengthsOf before) (length file))

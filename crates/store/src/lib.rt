@@ -29,7 +29,7 @@ pub fn store(
     groups: &mut [u64],
     file: &mut [u8],
 ) -> Stored
-    ensures { λ r. ⌜ Stores 62 head (now (records .entry)) (record { steps = now (steps .entry); merges = now (merges .entry); sizes = now (sizes .entry); rotations = now (rotations .entry); promotions = now (promotions .entry); measurements = now (measurements .entry); groups = now (groups .entry) }) (record { steps = now (steps .exit); merges = now (merges .exit); sizes = now (sizes .exit); rotations = now (rotations .exit); promotions = now (promotions .exit); measurements = now (measurements .exit); groups = now (groups .exit) }) (now (file .entry)) (now (file .exit)) r ⌝ }
+    ensures { λ r. ⌜ Stores head (now (records .entry)) (record { steps = now (steps .entry); merges = now (merges .entry); sizes = now (sizes .entry); rotations = now (rotations .entry); promotions = now (promotions .entry); measurements = now (measurements .entry); groups = now (groups .entry) }) (record { steps = now (steps .exit); merges = now (merges .exit); sizes = now (sizes .exit); rotations = now (rotations .exit); promotions = now (promotions .exit); measurements = now (measurements .exit); groups = now (groups .exit) }) (now (file .entry)) (now (file .exit)) r ⌝ }
 {
     let planned = build_active_component_plan(
         head,

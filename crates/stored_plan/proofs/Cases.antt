@@ -20,7 +20,7 @@ fileFor (refusedAt number index) = []
 -- a program with buffers for n records
 abbrev pub program : (initial max nexpvals n : ℕ) → List ℕ → Result
 program initial max nexpvals n ws =
-    planOf 62 (record { «initial_k» = initial; «max_k» = max; nexpvals = nexpvals }) ws
+    planOf (record { «initial_k» = initial; «max_k» = max; nexpvals = nexpvals; ceiling = 62 }) ws
     (record { steps = 2 * n; merges = n + 512; sizes = 512; rotations = 21 * n; promotions = n; measurements = 19 * n; groups = 1024 })
 
 -- 01's circuit with max_k 61 and an expectation value: accepted unread

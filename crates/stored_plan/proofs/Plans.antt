@@ -50,21 +50,21 @@ file-length p =
     let w = length-append (concat (sectionsOf k)) (trailerOf (sectionsOf k)) in
     omega arith
 
-module _ (limit : ℕ) (h : Head) (ws : List ℕ) (l : Lengths) (p : Plan) (small : h .«initial_k» < 2 ^ 64) (e : planOf limit h ws l ≡ planned p) where
+module _ (h : Head) (ws : List ℕ) (l : Lengths) (p : Plan) (small : h .«initial_k» < 2 ^ 64) (e : planOf h ws l ≡ planned p) where
   -- so many bytes are enough for n records
   pub file-most : length (fileOf p) ≤ 8 * (24 * (length ws / 8) + 1047)
-  file-most = let c = plan-counts limit h ws l p e .most in let f = file-length p in omega arith
+  file-most = let c = plan-counts h ws l p e .most in let f = file-length p in omega arith
 
   -- ---- words
 
   scalar-words : Words (scalarsOf p)
   scalar-words =
-      let w = plan-words limit h ws l p small e in
+      let w = plan-words h ws l p small e in
       (flag-word (p .selected), (w .initialComponents, (w .componentCount, (w .denseWork, (w .componentWork, (w .densePeak, (w .peak, (w .allocated, tt))))))))
 
   section-words : Words (concat (sectionsOf (keptOf p)))
   section-words =
-      let w = plan-words limit h ws l p small e in
+      let w = plan-words h ws l p small e in
       words-append (p .steps) _ (w .steps)
       (words-append (p .merges) _ (w .merges)
       (words-append (p .sizes) _ (w .sizes)
@@ -75,7 +75,7 @@ module _ (limit : ℕ) (h : Head) (ws : List ℕ) (l : Lengths) (p : Plan) (smal
 
   trailer-words : Words (trailerOf (sectionsOf (keptOf p)))
   trailer-words =
-      let c = plan-counts limit h ws l p e .few in
+      let c = plan-counts h ws l p e .few in
       let s = sections-length (keptOf p) in
       (omega arith, (omega arith, (omega arith, (omega arith, (omega arith, (omega arith, (omega arith, (omega arith, (omega arith, (omega arith, (omega arith, (omega arith, (omega arith, (omega arith, (omega arith, (omega arith, tt))))))))))))))))
 
@@ -83,7 +83,7 @@ module _ (limit : ℕ) (h : Head) (ws : List ℕ) (l : Lengths) (p : Plan) (smal
 
   whole-counts : (lent : WordCounts) → LongEnough p lent → countsRefused lent (keptOf p) ≡ false
   whole-counts lent long =
-      let c = plan-counts limit h ws l p e in
+      let c = plan-counts h ws l p e in
       let odd : oddCounts (countsOf (keptOf p)) (p .componentCount) ≡ false =
       ap₂ (λ (a b : Bool). a || b || not (eqb (length (p .rotations) % 21) 0) || not (eqb (length (p .measurements) % 19) 0))
       (ap not (eq-eqb _ 0 (c .steps))) (ap not (eq-eqb _ _ (c .sizes)))
@@ -140,10 +140,10 @@ kept-same p q f g e =
     }
 
 -- plans with the same file have the same fields and rows
-pub same-file : (limit : ℕ) (h : Head) (ws : List ℕ) (l : Lengths) (p : Plan) → h .«initial_k» < 2 ^ 64 → planOf limit h ws l ≡ planned p
-    → (limit' : ℕ) (h' : Head) (ws' : List ℕ) (l' : Lengths) (q : Plan) → h' .«initial_k» < 2 ^ 64 → planOf limit' h' ws' l' ≡ planned q
+pub same-file : (h : Head) (ws : List ℕ) (l : Lengths) (p : Plan) → h .«initial_k» < 2 ^ 64 → planOf h ws l ≡ planned p
+    → (h' : Head) (ws' : List ℕ) (l' : Lengths) (q : Plan) → h' .«initial_k» < 2 ^ 64 → planOf h' ws' l' ≡ planned q
     → fileOf p ≡ fileOf q → SamePlan p q
-same-file limit h ws l p small e limit' h' ws' l' q small' e' same =
+same-file h ws l p small e h' ws' l' q small' e' same =
     let lent : WordCounts = record {
       steps = length (p .steps) + length (q .steps);
       merges = length (p .merges) + length (q .merges);
@@ -152,7 +152,7 @@ same-file limit h ws l p small e limit' h' ws' l' q small' e' same =
       promotions = length (p .promotions) + length (q .promotions);
       measurements = length (p .measurements) + length (q .measurements);
     } in
-    let one = plan-restored limit h ws l p small e lent (record { steps = omega arith; merges = omega arith; sizes = omega arith; rotations = omega arith; promotions = omega arith; measurements = omega arith }) in
-    let other = plan-restored limit' h' ws' l' q small' e' lent (record { steps = omega arith; merges = omega arith; sizes = omega arith; rotations = omega arith; promotions = omega arith; measurements = omega arith }) in
-    kept-same p q (works-fit limit h ws l p e) (works-fit limit' h' ws' l' q e')
+    let one = plan-restored h ws l p small e lent (record { steps = omega arith; merges = omega arith; sizes = omega arith; rotations = omega arith; promotions = omega arith; measurements = omega arith }) in
+    let other = plan-restored h' ws' l' q small' e' lent (record { steps = omega arith; merges = omega arith; sizes = omega arith; rotations = omega arith; promotions = omega arith; measurements = omega arith }) in
+    kept-same p q (works-fit h ws l p e) (works-fit h' ws' l' q e')
     (restored-same (keptOf p) (keptOf q) (sym one ∙ ap (λ (f : List ℕ). readFile f lent) same ∙ other))

@@ -106,7 +106,7 @@ pub record RotationDone (width index : ℕ) (join : Joining) (tally next : Tally
   pub size : sizes' ≡ raised sizes join
   pub row : rotations' ≡ patch (21 * tally .rotations) (rotationRow (join .target) (tally .merges) (join .count) k) rotations
 
--- "14: a component of 62", the limit. "15: pivot >= k. 16: its coordinate is outside the target", and else the kernel, or 17 to 20
+-- 14: 02, CR 4, "a component whose size is the ceiling or more", which is the limit here. "15: pivot >= k. 16: its coordinate is outside the target", and else the kernel, or 17 to 20
 abbrev pub measurementAnswer : ℕ → List ℕ → List ℕ → ℕ → ℕ → ℕ → ℕ → ℕ → Joining → Answer PrecomputedActivePauliMeasurementKernel
 measurementAnswer limit component place x z phase pivot width join =
     cond (leb limit (join .size)) (refused 14)

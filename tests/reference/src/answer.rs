@@ -1,5 +1,6 @@
 //! The answer for a program, found in the order of 01's "Where planning stops".
 
+use crate::ceiling;
 use crate::component_plan::ActiveComponentPlan;
 use crate::input::{Program, Record};
 use crate::refusals::{self, Refusal};
@@ -13,7 +14,8 @@ pub enum Answer {
     Plan(ActiveComponentPlan, WholeWorks),
 }
 
-/// The Rust's answer, or 01's own refusal where it comes first.
+/// The Rust's answer under the program's ceiling, or the documents' own refusal where it comes
+/// first.
 pub fn answer(program: &Program) -> Result<Answer, String> {
     if let Some(refusal) = refusals::of_head(program) {
         return Ok(Answer::Refused(refusal));
@@ -25,7 +27,7 @@ pub fn answer(program: &Program) -> Result<Answer, String> {
         return Ok(Answer::Refused(refusal));
     }
     let records = program.records();
-    let walked = walk::walk(program, &records)?;
+    let walked = ceiling::under(program, &records, walk::walk(program, &records)?)?;
     compared(program, walked, &records)
 }
 

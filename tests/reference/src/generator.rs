@@ -1,10 +1,12 @@
 //! Programs for the oracle and for the comparison: random ones, the same for the same seed,
-//! and complete lists over small alphabets.
+//! and complete lists over small alphabets; at the ceiling 62, and under others.
 //!
 //! The random ones reach every refusal of docs/01-scope.md, 1 to 20, and plans with all six
 //! kinds of record, selected and not, of each mark of the whole works. Rotations carry Rust's
 //! own sines and cosines, but for those that are refused for theirs.
 
+mod around;
+mod ceilings;
 mod damage;
 mod draft;
 mod edits;
@@ -20,10 +22,20 @@ use random::Random;
 
 use crate::input::Program;
 
+pub use around::around_ceilings;
 pub use probes::probes;
 pub use random::Random as Numbers;
 pub use shapes::{check_circuit, steady};
 pub use small::small_programs;
+
+/// Makes the random program of a seed and a number.
+pub type Draw = fn(u64, u64) -> Result<Program, String>;
+
+/// At the ceiling 62.
+pub const AT_62: Draw = |seed, index| Ok(program(seed, index));
+
+/// Under a ceiling below 62, or one outside 1 to 62.
+pub const UNDER_CEILINGS: Draw = ceilings::program;
 
 /// A way to make a random program.
 type Sort = fn(Random) -> Program;

@@ -3,6 +3,9 @@
 /// Words in a record.
 pub const RECORD_WORDS: usize = 8;
 
+/// The largest ceiling, with which planning is as the Rust has it.
+pub const LARGEST_CEILING: u64 = 62;
+
 /// The seven lent buffers, in the order of their lengths.
 pub const BUFFERS: [&str; 7] = [
     "steps",
@@ -20,6 +23,7 @@ pub struct Program {
     pub initial_k: u64,
     pub max_k: u64,
     pub nexpvals: u64,
+    pub ceiling: u64,
     pub lengths: Option<[u64; 7]>,
     pub words: Vec<u64>,
 }
@@ -125,6 +129,18 @@ fn parse_lengths(part: &str) -> Result<Option<[u64; 7]>, String> {
     }
 }
 
+/// The three or four numbers of a head. Where the last is missing, it is the largest ceiling.
+fn parse_head(part: &str) -> Result<[u64; 4], String> {
+    match parse_numbers(part)?[..] {
+        [initial_k, max_k, nexpvals] => Ok([initial_k, max_k, nexpvals, LARGEST_CEILING]),
+        [initial_k, max_k, nexpvals, ceiling] => Ok([initial_k, max_k, nexpvals, ceiling]),
+        ref head => Err(format!(
+            "{} numbers in the head instead of three or four",
+            head.len()
+        )),
+    }
+}
+
 impl Program {
     /// The program of a line.
     pub fn parse(line: &str) -> Result<Self, String> {
@@ -135,17 +151,12 @@ impl Program {
                 parts.len()
             ));
         };
-        let head = parse_numbers(head)?;
-        let [initial_k, max_k, nexpvals] = head[..] else {
-            return Err(format!(
-                "{} numbers in the head instead of three",
-                head.len()
-            ));
-        };
+        let [initial_k, max_k, nexpvals, ceiling] = parse_head(head)?;
         Ok(Self {
             initial_k,
             max_k,
             nexpvals,
+            ceiling,
             lengths: parse_lengths(lengths)?,
             words: parse_numbers(words)?,
         })
@@ -166,13 +177,31 @@ impl Program {
         filled
     }
 
+    /// The same program under another ceiling.
+    pub fn under(&self, ceiling: u64) -> Self {
+        Self {
+            ceiling,
+            ..self.clone()
+        }
+    }
+
+    /// The head's numbers, without the ceiling where it is the largest.
+    fn head_text(&self) -> Vec<String> {
+        let head = [self.initial_k, self.max_k, self.nexpvals, self.ceiling];
+        let count = if self.ceiling == LARGEST_CEILING {
+            3
+        } else {
+            4
+        };
+        head[..count].iter().map(u64::to_string).collect()
+    }
+
     /// The program as a line. Masks and floats are in hexadecimal.
     pub fn text(&self) -> String {
-        let head = [self.initial_k, self.max_k, self.nexpvals].map(|number| number.to_string());
         let lengths = self.lengths.iter().flatten().map(u64::to_string);
         let words = self.words.chunks(RECORD_WORDS).flat_map(record_text);
         let semicolon = || std::iter::once(";".to_owned());
-        let head = head.into_iter().chain(semicolon());
+        let head = self.head_text().into_iter().chain(semicolon());
         let line = head.chain(lengths).chain(semicolon()).chain(words);
         line.collect::<Vec<_>>().join(" ")
     }

@@ -4,6 +4,7 @@
 include!(concat!(env!("OUT_DIR"), "/modules.rs"));
 
 pub mod answer;
+pub mod ceiling;
 pub mod expected;
 pub mod generator;
 pub mod input;

@@ -4,10 +4,11 @@
 //! Input, one program a line, numbers decimal or 0x and hexadecimal:
 //!
 //!     initial_k max_k nexpvals ; seven buffer lengths ; record words
+//!     initial_k max_k nexpvals ceiling ; seven buffer lengths ; record words
 //!
-//! The lengths stand in the order steps, merges, sizes, rotations, promotions,
-//! measurements, groups; where that part is empty they are just large enough. Empty
-//! lines and lines that begin with # are skipped.
+//! Where no ceiling is given it is 62. The lengths stand in the order steps, merges, sizes,
+//! rotations, promotions, measurements, groups; where that part is empty they are just
+//! large enough. Empty lines and lines that begin with # are skipped.
 //!
 //! Output for each program, one of:
 //!
@@ -23,7 +24,8 @@
 //! stops counts too) whose sine or cosine word is not Rust's own for its angle.
 //!
 //! With `--fill` each program is printed again, those words replaced by Rust's own.
-//! With `random SEED COUNT` nothing is read, and so many random programs are printed.
+//! With `random SEED COUNT` nothing is read, and so many random programs are printed; with
+//! `random-ceilings SEED COUNT` as many under ceilings.
 //! With `vectors` nothing is read, and the fixed vectors are written as bytes; with `files` the
 //! list of the files in which their plans are stored is printed.
 //!
@@ -33,6 +35,7 @@
 use std::io::{self, BufRead, BufWriter, Write};
 use std::process::ExitCode;
 
+use midvokt_reference::generator::Draw;
 use midvokt_reference::input::{Program, is_skipped};
 use midvokt_reference::{answer, generator, machine, output, vectors};
 
@@ -71,7 +74,7 @@ impl From<io::Error> for Trouble {
 enum Task {
     Answer,
     Fill,
-    Random { seed: u64, count: u64 },
+    Random { draw: Draw, seed: u64, count: u64 },
     Vectors,
     Files,
 }
@@ -82,17 +85,22 @@ fn task(options: &[String]) -> Result<Task, Trouble> {
         text.parse()
             .map_err(|error| Trouble::malformed(format!("{text:?} is not a number: {error}")))
     };
+    let random = |draw: Draw, seed: &str, count: &str| {
+        Ok(Task::Random {
+            draw,
+            seed: number(seed)?,
+            count: number(count)?,
+        })
+    };
     match options.iter().map(String::as_str).collect::<Vec<_>>()[..] {
         [] => Ok(Task::Answer),
         ["--fill"] => Ok(Task::Fill),
-        ["random", seed, count] => Ok(Task::Random {
-            seed: number(seed)?,
-            count: number(count)?,
-        }),
+        ["random", seed, count] => random(generator::AT_62, seed, count),
+        ["random-ceilings", seed, count] => random(generator::UNDER_CEILINGS, seed, count),
         ["vectors"] => Ok(Task::Vectors),
         ["files"] => Ok(Task::Files),
         _ => Err(Trouble::malformed(format!(
-            "{options:?}: the options are --fill, random SEED COUNT, vectors, and files"
+            "{options:?}: the options are --fill, random SEED COUNT, random-ceilings SEED COUNT, vectors, and files"
         ))),
     }
 }
@@ -128,9 +136,10 @@ fn work(output: &mut impl Write) -> Result<(), Trouble> {
     match task {
         Task::Answer => handle_all(output, false),
         Task::Fill => handle_all(output, true),
-        Task::Random { seed, count } => {
+        Task::Random { draw, seed, count } => {
             for index in 0..count {
-                writeln!(output, "{}", generator::program(seed, index).text())?;
+                let program = draw(seed, index).map_err(Trouble::unforeseen)?;
+                writeln!(output, "{}", program.text())?;
             }
             Ok(())
         }

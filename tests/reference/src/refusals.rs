@@ -1,8 +1,9 @@
-//! The refusals that are 01's own and not the Rust's: 1 to 10, in 01's order.
+//! The refusals that are the documents' own and not the Rust's: 02's 24, for a ceiling that is
+//! none, then 01's 1 to 10, in 01's order.
 
-use crate::input::{Program, RECORD_WORDS, Record};
+use crate::input::{LARGEST_CEILING, Program, RECORD_WORDS, Record};
 
-/// 01's number for why planning stops, and the record (0 for head and buffers).
+/// The number for why planning stops, and the record (0 for head and buffers).
 #[derive(Clone, Copy)]
 pub struct Refusal {
     pub number: u64,
@@ -18,9 +19,11 @@ fn without_record(number: u64) -> Option<Refusal> {
     Some(Refusal { number, index: 0 })
 }
 
-/// Refusal 1.
+/// Refusals 24 and 1.
 pub fn of_head(program: &Program) -> Option<Refusal> {
-    if program.max_k >= 62 {
+    if !(1..=LARGEST_CEILING).contains(&program.ceiling) {
+        without_record(24)
+    } else if program.max_k >= program.ceiling {
         without_record(1)
     } else {
         None

@@ -1,6 +1,6 @@
 //! The stored programs: 01's circuits, further circuits, and edges.
 
-use crate::input::{Program, is_skipped};
+use crate::input::{LARGEST_CEILING, Program, is_skipped};
 
 const TEXTS: [&str; 3] = [
     include_str!("../circuits.txt"),
@@ -27,7 +27,19 @@ pub fn circuits() -> Result<Vec<Program>, String> {
     programs_of_all(&TEXTS[..2])
 }
 
-/// All stored programs.
-pub fn programs() -> Result<Vec<Program>, String> {
-    programs_of_all(&TEXTS)
+/// All stored programs with the largest ceiling, or all others.
+fn programs(is_largest: bool) -> Result<Vec<Program>, String> {
+    let mut programs = programs_of_all(&TEXTS)?;
+    programs.retain(|program| (program.ceiling == LARGEST_CEILING) == is_largest);
+    Ok(programs)
+}
+
+/// The stored programs at the ceiling 62.
+pub fn at_62() -> Result<Vec<Program>, String> {
+    programs(true)
+}
+
+/// The stored programs under other ceilings.
+pub fn under_ceilings() -> Result<Vec<Program>, String> {
+    programs(false)
 }

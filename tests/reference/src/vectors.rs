@@ -1,9 +1,10 @@
 //! The fixed vectors: programs with the answers of the published Rust, as one list of words
-//! that a later program replays.
+//! that a later program replays. Those at the ceiling 62 come first, then those under others, with
+//! the oracle's reading of them.
 //!
 //! The list begins with the number of vectors. Each vector is:
 //!
-//!     initial_k, max_k, nexpvals
+//!     initial_k, max_k, nexpvals, ceiling
 //!     the number of record words
 //!     the seven buffer lengths, in words
 //!     the record words
@@ -15,7 +16,7 @@
 
 use crate::answer::answer;
 use crate::expected::Expected;
-use crate::generator;
+use crate::generator::{self, Draw};
 use crate::input::{Program, RECORD_WORDS};
 use crate::refusals::least_lengths;
 use crate::stored;
@@ -37,15 +38,19 @@ const OF_EACH_PLAN: [usize; 6] = [
     44, // the same, selected
 ];
 const REFUSALS: usize = 20;
+/// How many random programs under ceilings are taken that are refused 14.
+const TOO_LARGE_UNDER_CEILINGS: usize = 3;
+/// How many are taken with a plan of each sort.
+const PLANS_UNDER_CEILINGS: [usize; 6] = [1, 1, 0, 0, 1, 1];
 const SEED: u64 = 1;
 /// The longest file that stands whole in the list of files, in bytes.
 const MOST_SHOWN: usize = 400;
 /// The comment on top of the list of files.
 const LIST_HEAD: &str = "\
-# The files of the fixed vectors in crates/replay/stdin, which hold the published Rust's answers;
-# tests/vectors/make writes this list. A line for each vector, in their order: 'refused' and
-# planning's number, or 'plan', the file's length in bytes and its checksum (FNV-1a, 64 bits), and
-# of a short file all bytes, in words of eight.
+# The files of the fixed vectors in crates/replay/stdin, which hold the published Rust's answers,
+# under ceilings below 62 the oracle's reading of them; tests/vectors/make writes this list. A line
+# for each vector, in their order: 'refused' and planning's number, or 'plan', the file's length in
+# bytes and its checksum (FNV-1a, 64 bits), and of a short file all bytes, in words of eight.
 ";
 
 /// A program with everything that a call has to leave behind.
@@ -55,7 +60,7 @@ type Vector = (Program, Expected);
 fn words_of(program: &Program, expected: &Expected) -> Vec<u64> {
     let least = least_lengths((program.words.len() / RECORD_WORDS) as u64);
     let mut words = vec![program.initial_k, program.max_k, program.nexpvals];
-    words.push(program.words.len() as u64);
+    words.extend([program.ceiling, program.words.len() as u64]);
     words.extend(program.lengths.unwrap_or(least));
     words.extend(&program.words);
     words.push(expected.number);
@@ -73,36 +78,51 @@ fn is_short(program: &Program, expected: &Expected) -> bool {
         && expected.outputs.iter().map(Vec::len).sum::<usize>() <= MOST_USED
 }
 
-/// What is still to be taken: refusals in the order of their numbers, then plans by sort.
-fn wanted() -> Vec<usize> {
+/// What is to be taken at the ceiling 62: refusals in the order of their numbers, then plans by
+/// sort.
+fn wanted_at_62() -> Vec<usize> {
     [&[OF_EACH_REFUSAL; REFUSALS][..], &OF_EACH_PLAN].concat()
 }
 
-/// The place of an answer among what is wanted.
-fn place(expected: &Expected) -> usize {
+/// What is to be taken under ceilings, in the same order.
+fn wanted_under_ceilings() -> Vec<usize> {
+    let mut wanted = [&[0; REFUSALS][..], &PLANS_UNDER_CEILINGS].concat();
+    wanted[14 - 1] = TOO_LARGE_UNDER_CEILINGS;
+    wanted
+}
+
+/// The place of an answer among what is wanted; refusal 24 has none.
+fn place(expected: &Expected) -> Option<usize> {
     let [_, selected, .., mark, dense, _, _, _] = expected.result;
-    match (expected.number, mark) {
-        (0, 0) => REFUSALS + selected as usize,
-        (0, 1) => REFUSALS + 2 + usize::from(dense > 0),
-        (0, _) => REFUSALS + 4 + selected as usize,
-        (number, _) => number as usize - 1,
+    match (expected.number as usize, mark) {
+        (0, 0) => Some(REFUSALS + selected as usize),
+        (0, 1) => Some(REFUSALS + 2 + usize::from(dense > 0)),
+        (0, _) => Some(REFUSALS + 4 + selected as usize),
+        (number @ 1..=REFUSALS, _) => Some(number - 1),
+        _ => None,
+    }
+}
+
+/// The vector of a program.
+fn vector(program: Program) -> Result<Vector, String> {
+    match Expected::of(&answer(&program)?)? {
+        Some(expected) => Ok((program, expected)),
+        None => Err(format!("a vector is incomparable: {}", program.text())),
     }
 }
 
 /// Random programs with their answers, until all that is wanted is there.
-fn random_vectors() -> Result<Vec<Vector>, String> {
-    let mut wanted = wanted();
+fn random_vectors(draw: Draw, mut wanted: Vec<usize>) -> Result<Vec<Vector>, String> {
     let mut vectors = Vec::new();
     for index in 0.. {
         if wanted.iter().all(|&count| count == 0) {
             break;
         }
-        let program = generator::program(SEED, index);
-        let Some(expected) = Expected::of(&answer(&program)?)? else {
-            return Err("a random program is incomparable".to_owned());
-        };
-        let place = place(&expected);
-        if is_short(&program, &expected) && wanted[place] > 0 {
+        let (program, expected) = vector(draw(SEED, index)?)?;
+        if let Some(place) = place(&expected)
+            && is_short(&program, &expected)
+            && wanted[place] > 0
+        {
             wanted[place] -= 1;
             vectors.push((program, expected));
         }
@@ -110,17 +130,21 @@ fn random_vectors() -> Result<Vec<Vector>, String> {
     Ok(vectors)
 }
 
-/// All vectors: 01's circuits and the further ones, then random programs.
+/// The vectors of stored programs.
+fn stored_vectors(programs: Vec<Program>) -> Result<Vec<Vector>, String> {
+    programs.into_iter().map(vector).collect()
+}
+
+/// All vectors: 01's circuits and the further ones, then random programs; then the stored
+/// programs under ceilings, and random ones.
 fn all() -> Result<Vec<Vector>, String> {
-    let mut vectors = Vec::new();
-    for program in stored::circuits()? {
-        match Expected::of(&answer(&program)?)? {
-            Some(expected) => vectors.push((program, expected)),
-            None => return Err("a circuit is incomparable".to_owned()),
-        }
-    }
-    vectors.extend(random_vectors()?);
-    Ok(vectors)
+    let parts = [
+        stored_vectors(stored::circuits()?)?,
+        random_vectors(generator::AT_62, wanted_at_62())?,
+        stored_vectors(stored::under_ceilings()?)?,
+        random_vectors(generator::UNDER_CEILINGS, wanted_under_ceilings())?,
+    ];
+    Ok(parts.into_iter().flatten().collect())
 }
 
 /// The whole list of words.

@@ -77,6 +77,12 @@ pub fn plan_unread(program: &Program) -> Result<ActiveComponentPlan, String> {
     })
 }
 
+/// The plan of records that the Rust accepts.
+pub fn plan_accepted(program: &Program, records: &[Record]) -> Result<ActiveComponentPlan, String> {
+    plan(program, records)?
+        .map_err(|message| format!("the Rust refuses records that it should accept: {message}"))
+}
+
 /// Whether the Rust refuses these records, which it may do with this message only.
 fn is_refused(program: &Program, records: &[Record], message: &str) -> Result<bool, String> {
     match plan(program, records)? {

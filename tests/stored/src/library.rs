@@ -5,6 +5,7 @@ pub struct Program {
     pub initial_k: u64,
     pub max_k: u64,
     pub nexpvals: u64,
+    pub ceiling: u64,
     pub records: Vec<u64>,
 }
 
@@ -14,6 +15,7 @@ extern "C" {
         initial_k: u64,
         max_k: u64,
         nexpvals: u64,
+        ceiling: u64,
         records: *const u64,
         records_len: usize,
         steps: *mut u64,
@@ -66,6 +68,7 @@ pub fn store(program: &Program, file: &mut [u8], parts: [&mut [u64]; 8]) -> u64 
             program.initial_k,
             program.max_k,
             program.nexpvals,
+            program.ceiling,
             program.records.as_ptr(),
             program.records.len(),
             steps.as_mut_ptr(),

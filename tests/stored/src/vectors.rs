@@ -1,5 +1,5 @@
-//! The fixed vectors: programs with the answers of the published Rust and the files of its plans,
-//! stored and loaded.
+//! The fixed vectors: programs with the answers of the published Rust, or of the oracle under
+//! ceilings below 62, and the files of their plans, stored and loaded.
 
 use crate::draft::{Draft, SECTIONS};
 use crate::library::Program;
@@ -12,7 +12,7 @@ const PLAN_RESULT: usize = 14;
 const TOO_SHORT: u64 = 23;
 /// Planning reads no record below this max_k.
 const LEAST_READ: u64 = 8;
-/// Planning refuses this max_k.
+/// The largest ceiling.
 const MOST: u64 = 62;
 /// Bytes of the file in which a refused program is stored.
 const REFUSED_FILES: [usize; 4] = [0, 1, 192, 1000];
@@ -66,12 +66,13 @@ impl Words<'_> {
     /// The next vector.
     fn vector(&mut self) -> Result<Vector, String> {
         let [initial_k, max_k, nexpvals] = [self.one()?, self.one()?, self.one()?];
-        let records = self.one()?;
+        let [ceiling, records] = [self.one()?, self.one()?];
         let lengths = self.some(7)?;
         let program = Program {
             initial_k,
             max_k,
             nexpvals,
+            ceiling,
             records: self.some(records)?,
         };
         let number = self.one()?;
@@ -242,6 +243,14 @@ impl Vector {
         Ok(())
     }
 
+    /// The program's ceiling, or the largest where it has none that may be.
+    fn ceiling(&self) -> u64 {
+        match self.program.ceiling {
+            ceiling @ 1..=MOST => ceiling,
+            _ => MOST,
+        }
+    }
+
     /// The same records under a head with which planning reads none of them: the plan has
     /// initial_k and 2 to the power of max_k, and zeros else.
     fn unread(&self, max_k: u64, nexpvals: u64) -> Self {
@@ -257,6 +266,7 @@ impl Vector {
                 initial_k,
                 max_k,
                 nexpvals,
+                ceiling: self.ceiling(),
                 records: records.clone(),
             },
             lengths: self.lengths,
@@ -268,7 +278,7 @@ impl Vector {
 
     /// Stores the vector's records unread, and loads the file.
     fn check_unread(&self, trial: &mut Trial, what: &str) -> Result<(), String> {
-        let max_k = self.program.max_k % MOST;
+        let max_k = self.program.max_k % self.ceiling();
         for (max_k, nexpvals) in [(max_k % LEAST_READ, 0), (max_k, 1), (max_k, u64::MAX)] {
             let what = format!("{what} with max_k {max_k} and nexpvals {nexpvals}");
             let unread = self.unread(max_k, nexpvals);

@@ -9,7 +9,7 @@ use core::panic::PanicInfo;
 
 use midvokt::{
     file_bytes, load_into, plan_into, store_into, ActiveComponentStepKind, Buffers, Head, Lengths,
-    Record, Rotation, Sections, RECORD_WORDS,
+    Record, Rotation, Sections, LARGEST_CEILING, RECORD_WORDS,
 };
 
 const RECORDS: usize = 2;
@@ -18,6 +18,7 @@ const HEAD: Head = Head {
     initial_k: 3,
     max_k: 8,
     nexpvals: 0,
+    ceiling: LARGEST_CEILING,
 };
 
 #[link(name = "c")]

@@ -5,13 +5,13 @@ use mathlib.Core.Path.{_≡_, refl, sym, ap, _∙_}
 use mathlib.Core.Bool.{true}
 use mathlib.Core.Logic.{⊎-elim}
 use mathlib.Core.List.{List}
-use mathlib.Core.Option.{some}
 use Prim.Native.Nat.{ℕ}
 use denote.Ref.{now}
-use Rattle.kernels.specs.Bits.{dimension, dimensionOf}
+use Rattle.kernels.specs.Active.{given}
 use Rattle.definition.specs.Plan.{planned, refusedAt, unread, unreadPlan, planOf, planRead}
 use Rattle.walk.specs.Walking.{Buffers, lengthsOf, SameLengths}
-use Rattle.component_plan.proofs.Refusals.{answers, zeros-held, unread-held, unread-same, unread-small, unread-expected, unread-neither, plan-too-large, plan-unread, plan-is-read, refused-answers, planned-answers}
+use Rattle.lent.specs.Lent.{headAnswer, densePeakOf}
+use Rattle.component_plan.proofs.Refusals.{answers, zeros-held, unread-held, unread-same, unread-small, unread-expected, unread-neither, plan-headless, plan-unread, plan-is-read, refused-answers, planned-answers}
 use Rattle.component_plan.proofs.build_active_component_plan.Statement.{statement}
 use Rattle.component_plan.proofs.build_active_component_plan.Tie as tie
 
@@ -54,13 +54,13 @@ cleared2-of c = record {
 
 abbrev read-of : tie.After-plan-read → Buffers
 read-of c = record {
-  steps = c .plan-read .last .1 .1 .1 .1 .0;
-  merges = c .plan-read .last .1 .1 .1 .1 .1 .0;
-  sizes = c .plan-read .last .1 .1 .1 .1 .1 .1 .0;
-  rotations = c .plan-read .last .1 .1 .1 .1 .1 .1 .1 .0;
-  promotions = c .plan-read .last .1 .1 .1 .1 .1 .1 .1 .1 .0;
-  measurements = c .plan-read .last .1 .1 .1 .1 .1 .1 .1 .1 .1 .0;
-  groups = c .plan-read .last .1 .1 .1 .1 .1 .1 .1 .1 .1 .1 .0;
+  steps = c .plan-read .last .1 .1 .1 .0;
+  merges = c .plan-read .last .1 .1 .1 .1 .0;
+  sizes = c .plan-read .last .1 .1 .1 .1 .1 .0;
+  rotations = c .plan-read .last .1 .1 .1 .1 .1 .1 .0;
+  promotions = c .plan-read .last .1 .1 .1 .1 .1 .1 .1 .0;
+  measurements = c .plan-read .last .1 .1 .1 .1 .1 .1 .1 .1 .0;
+  groups = c .plan-read .last .1 .1 .1 .1 .1 .1 .1 .1 .1 .0;
 }
 
 abbrev cleared3-of : tie.After-clear-all3 → Buffers
@@ -81,18 +81,18 @@ same-here b = record { steps = refl; merges = refl; sizes = refl; rotations = re
 -- reading keeps the lengths
 same-read : (c : tie.After-plan-read) → SameLengths (before-of (c .before .before .before .before .before .before .before .before .before .before .before .before .before .before .before .before .before .before .before .before .before .before)) (read-of c)
 same-read c = record {
-  steps = c .plan-read .kept .1 .1 .1 .1 .0;
-  merges = c .plan-read .kept .1 .1 .1 .1 .1 .0;
-  sizes = c .plan-read .kept .1 .1 .1 .1 .1 .1 .0;
-  rotations = c .plan-read .kept .1 .1 .1 .1 .1 .1 .1 .0;
-  promotions = c .plan-read .kept .1 .1 .1 .1 .1 .1 .1 .1 .0;
-  measurements = c .plan-read .kept .1 .1 .1 .1 .1 .1 .1 .1 .1 .0;
-  groups = c .plan-read .kept .1 .1 .1 .1 .1 .1 .1 .1 .1 .1 .0;
+  steps = c .plan-read .kept .1 .1 .1 .0;
+  merges = c .plan-read .kept .1 .1 .1 .1 .0;
+  sizes = c .plan-read .kept .1 .1 .1 .1 .1 .0;
+  rotations = c .plan-read .kept .1 .1 .1 .1 .1 .1 .0;
+  promotions = c .plan-read .kept .1 .1 .1 .1 .1 .1 .1 .0;
+  measurements = c .plan-read .kept .1 .1 .1 .1 .1 .1 .1 .1 .0;
+  groups = c .plan-read .kept .1 .1 .1 .1 .1 .1 .1 .1 .1 .0;
 }
 
--- the dimension that the head has
-length-given : (c : tie.After-length) → dimension 62 (c .before .before .before .before .before .before .before .before .before .before .before .args .head .«max_k») ≡ some (c .length .given .0 .0)
-length-given c = sym (c .before .before .active-length .ensures) ∙ ap dimensionOf (c .length .given .1)
+-- the dense peak that the head has
+peak-given : (c : tie.After-peak2) → given (c .peak2 .given .0 .0) ≡ headAnswer (c .before .before .before .before .before .before .before .before .before .before .before .args .head)
+peak-given c = ap densePeakOf (sym (c .peak2 .given .1)) ∙ c .before .before .dense-peak .ensures
 
 head-unread : (c : tie.Joined1) → unread (c .before .before .before .before .before .before .before .before .before .before .before .before .before .args .head) ≡ true
 head-unread c =
@@ -101,22 +101,22 @@ head-unread c =
 
 -- where the records are read
 is-read : (c : tie.Else2) → let s = c .before .before .before .before .before .before .before .before .before .before .before .before .before .before in
-    planOf 62 (s .args .head) (words-of s) (lengthsOf (before-of s)) ≡ planRead 62 (s .args .head) (words-of s) (lengthsOf (before-of s)) (c .before .before .before .length .given .0 .0)
+    planOf (s .args .head) (words-of s) (lengthsOf (before-of s)) ≡ planRead (s .args .head) (words-of s) (lengthsOf (before-of s)) (c .before .before .before .peak2 .given .0 .0)
 is-read c =
     let s = c .before .before .before .before .before .before .before .before .before .before .before .before .before .before in
-    plan-is-read 62 (s .args .head) (words-of s) (lengthsOf (before-of s)) _ (length-given (c .before .before .before)) (unread-neither (s .args .head) (c .before .if1 .left) (c .if2 .left))
+    plan-is-read (s .args .head) (words-of s) (lengthsOf (before-of s)) _ (peak-given (c .before .before .before)) (unread-neither (s .args .head) (c .before .if1 .left) (c .if2 .left))
 
-active-length-requires : tie.Need-active-length-requires
-active-length-requires c κs = search needs
+dense-peak-requires : tie.Need-dense-peak-requires
+dense-peak-requires c κs = search needs
 
-enum-told : tie.Need-enum-told
-enum-told c = search needs
+enum-known-peak : tie.Need-enum-known-peak
+enum-known-peak c = search needs
 
 clear-all-requires : tie.Need-clear-all-requires
 clear-all-requires c κs = search needs
 
-enum-known-length : tie.Need-enum-known-length
-enum-known-length c = search needs
+enum-known-peak-2 : tie.Need-enum-known-peak-2
+enum-known-peak-2 c = search needs
 
 clear-all-requires-2 : tie.Need-clear-all-requires-2
 clear-all-requires-2 c κs = search needs
@@ -150,9 +150,9 @@ returns c =
     let cleared = c .before .before .before .before .before .before .before .before .before .before .before .before .before .before .before in
     let s = c .before .before .before .before .before .before .before .before .before .before .before .before .before .before .before .before .before .before .before .before .before .before .before .before .before .before .before .before .before .before .before .before .before .before .before .before in
     let h = s .args .head in
-    let peak = c .before .before .before .before .before .before .before .before .before .before .before .before .before .before .before .before .before .before .before .before .before .before .before .before .before .length .given .0 .0 in
-    answers 62 h (words-of s) (before-of s) (cleared2-of cleared) (planned (unreadPlan (h .«initial_k») peak)) _
-    (plan-unread 62 h (words-of s) (lengthsOf (before-of s)) peak (length-given (c .before .before .before .before .before .before .before .before .before .before .before .before .before .before .before .before .before .before .before .before .before .before .before .before .before)) (head-unread (c .before .before .before .before .before .before .before .before .before .before .before .before .before .before .before .before .before .before .before .before .before .before .before)))
+    let peak = c .before .before .before .before .before .before .before .before .before .before .before .before .before .before .before .before .before .before .before .before .before .before .before .before .before .peak2 .given .0 .0 in
+    answers h (words-of s) (before-of s) (cleared2-of cleared) (planned (unreadPlan (h .«initial_k») peak)) _
+    (plan-unread h (words-of s) (lengthsOf (before-of s)) peak (peak-given (c .before .before .before .before .before .before .before .before .before .before .before .before .before .before .before .before .before .before .before .before .before .before .before .before .before)) (head-unread (c .before .before .before .before .before .before .before .before .before .before .before .before .before .before .before .before .before .before .before .before .before .before .before)))
     (unread-same (h .«initial_k») peak _ (c .unread-plan .ensures))
     (unread-held (h .«initial_k») peak 0 0 (before-of s) (cleared2-of cleared) (cleared .clear-all2 .ensures))
 
@@ -165,8 +165,8 @@ enum-known-planned c = search needs
 clear-all-requires-3 : tie.Need-clear-all-requires-3
 clear-all-requires-3 c κs = search needs
 
-enum-told-2 : tie.Need-enum-told-2
-enum-told-2 c = search needs
+enum-told : tie.Need-enum-told
+enum-told c = search needs
 
 same-length-8 : tie.Need-same-length-8
 same-length-8 c = search needs
@@ -192,12 +192,13 @@ same-length-14 c = search needs
 returns-2 : tie.Need-returns-2
 returns-2 c =
     let cleared = c .before .before .before .before .before .before .before .before .before .before .before .before .before .before in
-    let s = c .before .before .before .before .before .before .before .before .before .before .before .before .before .before .before .before .before .before .before .before .before .before .before .before .before .before .before .before .before .before .before .before .before in
+    let s = c .before .before .before .before .before .before .before .before .before .before .before .before .before .before .before .before .before .before .before .before .before .before .before .before .before .before .before .before .before .before .before .before .before .before in
     let h = s .args .head in
-    answers 62 h (words-of s) (before-of s) (cleared-of cleared) (refusedAt 1 0) _
-    (plan-too-large 62 h (words-of s) (lengthsOf (before-of s)) (sym (c .before .before .before .before .before .before .before .before .before .before .before .before .before .before .before .before .before .before .before .before .before .before .before .before .active-length .ensures) ∙ ap dimensionOf (c .before .before .before .before .before .before .before .before .before .before .before .before .before .before .before .before .before .before .before .before .before .before .enum-told .given .1)))
+    let told = c .before .before .before .before .before .before .before .before .before .before .before .before .before .before .before .before .before .before .before .before .before .before .before .peak .given in
+    answers h (words-of s) (before-of s) (cleared-of cleared) (refusedAt (told .0 .0) 0) _
+    (plan-headless h (words-of s) (lengthsOf (before-of s)) (told .0 .0) (ap densePeakOf (sym (told .1)) ∙ c .before .before .before .before .before .before .before .before .before .before .before .before .before .before .before .before .before .before .before .before .before .before .before .before .before .dense-peak .ensures))
     refl
-    (zeros-held 0 0 1 0 (before-of s) (before-of s) (cleared-of cleared) (same-here (before-of s)) (cleared .clear-all .ensures))
+    (zeros-held 0 0 (told .0 .0) 0 (before-of s) (before-of s) (cleared-of cleared) (same-here (before-of s)) (cleared .clear-all .ensures))
 
 same-length-15 : tie.Need-same-length-15
 same-length-15 c = search needs
@@ -226,7 +227,7 @@ returns-3 c =
     let asked = c .before .before .before .before .before .before .before .before .before .before .before .before .before .before .before .before .before .before .before .before .before .before .before .before .before .before .before .before .before .before .before .before .before .before .before .before .before .before .before in
     let s = c .before .before .before .before .before .before .before .before .before .before .before .before .before .before .before .before .before .before .before .before .before .before .before .before .before .before .before .before .before .before .before .before .before .before .before .before .before .before .before .before .before .before .before .before .before .before .before .before .before .before .before .before .before .before .before .before .before .before .before .before .before in
     let told = c .before .before .before .before .before .before .before .before .before .before .before .before .before .before .before .before .before .before .before .before .before .before .before .planned .given in
-    refused-answers 62 (s .args .head) _ (words-of s) (before-of s) (read-of asked) _ (is-read (c .before .before .before .before .before .before .before .before .before .before .before .before .before .before .before .before .before .before .before .before .before .before .before .before .before .before .before .before .before .before .before .before .before .before .before .before .before .before .before .before .before .before .before .before .before .before .before)) (asked .plan-read .ensures)
+    refused-answers (s .args .head) _ (words-of s) (before-of s) (read-of asked) _ (is-read (c .before .before .before .before .before .before .before .before .before .before .before .before .before .before .before .before .before .before .before .before .before .before .before .before .before .before .before .before .before .before .before .before .before .before .before .before .before .before .before .before .before .before .before .before .before .before .before)) (asked .plan-read .ensures)
     (told .0 .0) (told .0 .1 .0) (cleared3-of cleared) (told .1) (same-read asked) (cleared .clear-all3 .ensures)
 
 same-length-22 : tie.Need-same-length-22
@@ -254,17 +255,17 @@ returns-4 : tie.Need-returns-4
 returns-4 c =
     let asked = c .before .before .before .before .before .before .before .before .before .before .before .before .before .before .before .before in
     let s = c .before .before .before .before .before .before .before .before .before .before .before .before .before .before .before .before .before .before .before .before .before .before .before .before .before .before .before .before .before .before .before .before .before .before .before .before .before .before in
-    let told = c .enum-told2 .given in
-    planned-answers 62 (s .args .head) _ (words-of s) (before-of s) (read-of asked) _ (is-read (c .before .before .before .before .before .before .before .before .before .before .before .before .before .before .before .before .before .before .before .before .before .before .before .before)) (asked .plan-read .ensures) (told .0 .0) (told .1)
+    let told = c .enum-told .given in
+    planned-answers (s .args .head) _ (words-of s) (before-of s) (read-of asked) _ (is-read (c .before .before .before .before .before .before .before .before .before .before .before .before .before .before .before .before .before .before .before .before .before .before .before .before)) (asked .plan-read .ensures) (told .0 .0) (told .1)
 
 pub build-active-component-plan-spec : {M : Type 1} → statement M
 build-active-component-plan-spec =
     tie.close
     (tie.spec
-    active-length-requires
-    enum-told
+    dense-peak-requires
+    enum-known-peak
     clear-all-requires
-    enum-known-length
+    enum-known-peak-2
     clear-all-requires-2
     unread-plan-requires
     same-length
@@ -278,7 +279,7 @@ build-active-component-plan-spec =
     plan-read-requires
     enum-known-planned
     clear-all-requires-3
-    enum-told-2
+    enum-told
     same-length-8
     same-length-9
     same-length-10

@@ -85,21 +85,21 @@ walkable c =
     let s = lent-start n in
     let a = s .args in
     let zero = c .before .before .before .if1 .left in record {
-      initial-small = lent-initial (a .limit) (a .head) (words-of s) (lengthsOf (before-of s)) (a .dense-peak) _ (lent n) zero;
-      whole = lent-words (a .limit) (a .head) (words-of s) (lengthsOf (before-of s)) (a .dense-peak) _ (lent n) zero;
-      room = lent-room (a .limit) (a .head) (words-of s) (lengthsOf (before-of s)) (a .dense-peak) _ (lent n) zero;
+      initial-small = lent-initial (a .head) (words-of s) (lengthsOf (before-of s)) (a .dense-peak) _ (lent n) zero;
+      whole = lent-words (a .head) (words-of s) (lengthsOf (before-of s)) (a .dense-peak) _ (lent n) zero;
+      room = lent-room (a .head) (words-of s) (lengthsOf (before-of s)) (a .dense-peak) _ (lent n) zero;
       passed = passed c;
     }
 
 -- so the walk decides
 read-walk : (c : tie.After-enum-told) → let s = lent-start (c .before .before .before .before) in
-    planRead (s .args .limit) (s .args .head) (words-of s) (lengthsOf (before-of s)) (s .args .dense-peak)
-    ≡ afterWalk (s .args .head .«initial_k») (s .args .dense-peak) (walkFrom (s .args .limit) 0 (start (s .args .head .«initial_k»)) (instructionsOf (words-of s)))
+    planRead (s .args .head) (words-of s) (lengthsOf (before-of s)) (s .args .dense-peak)
+    ≡ afterWalk (s .args .head .«initial_k») (s .args .dense-peak) (walkFrom (s .args .head .ceiling) 0 (start (s .args .head .«initial_k»)) (instructionsOf (words-of s)))
 read-walk c =
     let n = c .before .before .before .before in
     let s = lent-start n in
     let a = s .args in
-    lent-passed (a .limit) (a .head) (words-of s) (lengthsOf (before-of s)) (a .dense-peak) _ (lent n) (c .before .before .before .if1 .left) Passed (passed c)
+    lent-passed (a .head) (words-of s) (lengthsOf (before-of s)) (a .dense-peak) _ (lent n) (c .before .before .before .if1 .left) Passed (passed c)
 
 abbrev walk-start : tie.After-walk → tie.Start
 walk-start c = lent-start (c .before .before .before .before .before .before .before .before .before .before .before .before)
@@ -118,15 +118,15 @@ same c = record {
 
 -- a finished walk, its state and its run
 ended : (c : tie.After-walked2) → let a = walk-start (c .before .before .before .before .before .before .before .before .before .before .before .before .before .before .before .before) .args in
-    (w : Walk) × (walkFrom (a .limit) 0 (start (a .head .«initial_k»)) (instructionsOf (now (a .records))) ≡ finished w)
+    (w : Walk) × (walkFrom (a .head .ceiling) 0 (start (a .head .«initial_k»)) (instructionsOf (now (a .records))) ≡ finished w)
     × Ended w (c .walked2 .given .0 .0) (walked-of (c .before .before .before .before .before .before .before .before .before .before .before .before .before .before .before .before))
 ended c =
     let a = walk-start (c .before .before .before .before .before .before .before .before .before .before .before .before .before .before .before .before) .args in
-    walk-finishes (walkFrom (a .limit) 0 (start (a .head .«initial_k»)) (instructionsOf (now (a .records)))) _ (c .walked2 .given .0 .0) (walked-of (c .before .before .before .before .before .before .before .before .before .before .before .before .before .before .before .before))
+    walk-finishes (walkFrom (a .head .ceiling) 0 (start (a .head .«initial_k»)) (instructionsOf (now (a .records)))) _ (c .walked2 .given .0 .0) (walked-of (c .before .before .before .before .before .before .before .before .before .before .before .before .before .before .before .before))
     (c .walked2 .given .1) (c .before .before .before .before .before .before .before .before .before .before .before .before .before .before .before .before .walk .ensures)
 
-run : (c : tie.After-walked2) → let a = walk-start (c .before .before .before .before .before .before .before .before .before .before .before .before .before .before .before .before) .args in Run (a .limit) (start (a .head .«initial_k»)) (instructionsOf (now (a .records))) (ended c .0)
-run c = let a = walk-start (c .before .before .before .before .before .before .before .before .before .before .before .before .before .before .before .before) .args in run-of-walk (a .limit) 0 (start (a .head .«initial_k»)) (ended c .0) (instructionsOf (now (a .records))) (ended c .1)
+run : (c : tie.After-walked2) → let a = walk-start (c .before .before .before .before .before .before .before .before .before .before .before .before .before .before .before .before) .args in Run (a .head .ceiling) (start (a .head .«initial_k»)) (instructionsOf (now (a .records))) (ended c .0)
+run c = let a = walk-start (c .before .before .before .before .before .before .before .before .before .before .before .before .before .before .before .before) .args in run-of-walk (a .head .ceiling) 0 (start (a .head .«initial_k»)) (ended c .0) (instructionsOf (now (a .records))) (ended c .1)
 
 -- what the buffers hold in the end
 held : (c : tie.After-clear-rest) → let s = walk-start (c .before .before .before .before .before .before .before .before .before .before .before .before .before .before .before .before .before .before .before .before .before .before .before .before .before) in
@@ -168,8 +168,8 @@ returns c =
     let n = c .before in
     let s = lent-start n in
     let a = s .args in
-    read-refused (a .limit) (a .head) (a .dense-peak) (words-of s) (before-of s) (before-of s) _ 0
-    (lent-refused (a .limit) (a .head) (words-of s) (lengthsOf (before-of s)) (a .dense-peak) _ (lent n) (c .if1 .taken))
+    read-refused (a .head) (a .dense-peak) (words-of s) (before-of s) (before-of s) _ 0
+    (lent-refused (a .head) (words-of s) (lengthsOf (before-of s)) (a .dense-peak) _ (lent n) (c .if1 .taken))
 
 check-records-requires : tie.Need-check-records-requires
 check-records-requires c κs = search needs
@@ -195,7 +195,7 @@ clear-rest-requires c κs =
     let s = walk-start (w .before .before .before .before .before .before .before .before .before .before .before .before .before .before .before .before) in
     let n = w .before .before .before .before .before .before .before .before .before .before .before .before .before .before .before .before .before .before .before .before .before .before .before .before .before .before .before .before in
     used-fit (s .args .head .«initial_k») (words-of s) (ended w .0) (run w) (w .walked2 .given .0 .0) (walked-of (w .before .before .before .before .before .before .before .before .before .before .before .before .before .before .before .before)) (ended w .2)
-    (lent-few (s .args .limit) (s .args .head) (words-of s) (lengthsOf (before-of s)) (s .args .dense-peak) _ (lent n) (w .before .before .before .before .before .before .before .before .before .before .before .before .before .before .before .before .before .before .before .before .before .before .before .before .before .before .before .if1 .left))
+    (lent-few (s .args .head) (words-of s) (lengthsOf (before-of s)) (s .args .dense-peak) _ (lent n) (w .before .before .before .before .before .before .before .before .before .before .before .before .before .before .before .before .before .before .before .before .before .before .before .before .before .before .before .if1 .left))
 
 slice-reshare-prefix-allocated : tie.Need-slice-reshare-prefix-allocated
 slice-reshare-prefix-allocated c = count-fits (c .before .before .before .before .before .before .before .before .before .before .before .before .before .before)
@@ -206,7 +206,7 @@ slice-aggregate-allocated c = taken _ _ (count-fits (c .before .before .before .
 allocated-requires : tie.Need-allocated-requires
 allocated-requires c κs =
     let w = c .before .before .before .before .before .before .before .before .before .before .before .before .before .before .before .before .before .before .before .before .before .before .before .before in
-    λ i h. subst (λ (l : List ℕ). getD l i 0 < 64) (sym (sizes-front (c .before .before .before .before .before .before .before .before .before .before .before .before .before .before .before))) (reached-longest (walk-start (w .before .before .before .before .before .before .before .before .before .before .before .before .before .before .before .before) .args .head .«initial_k») (run w) i)
+    λ i h. subst (λ (l : List ℕ). getD l i 0 < 64) (sym (sizes-front (c .before .before .before .before .before .before .before .before .before .before .before .before .before .before .before))) (reached-longest 64 (omega arith) (omega arith) (walk-start (w .before .before .before .before .before .before .before .before .before .before .before .before .before .before .before .before) .args .head .«initial_k») (run w) i)
 
 plan-of-requires : tie.Need-plan-of-requires
 plan-of-requires c κs =
@@ -214,15 +214,15 @@ plan-of-requires c κs =
     let s = walk-start (w .before .before .before .before .before .before .before .before .before .before .before .before .before .before .before .before) in
     let n = w .before .before .before .before .before .before .before .before .before .before .before .before .before .before .before .before .before .before .before .before .before .before .before .before .before .before .before .before in
     used-fit (s .args .head .«initial_k») (words-of s) (ended w .0) (run w) (w .walked2 .given .0 .0) (walked-of (w .before .before .before .before .before .before .before .before .before .before .before .before .before .before .before .before)) (ended w .2)
-    (lent-few (s .args .limit) (s .args .head) (words-of s) (lengthsOf (before-of s)) (s .args .dense-peak) _ (lent n) (w .before .before .before .before .before .before .before .before .before .before .before .before .before .before .before .before .before .before .before .before .before .before .before .before .before .before .before .if1 .left))
+    (lent-few (s .args .head) (words-of s) (lengthsOf (before-of s)) (s .args .dense-peak) _ (lent n) (w .before .before .before .before .before .before .before .before .before .before .before .before .before .before .before .before .before .before .before .before .before .before .before .before .before .before .before .if1 .left))
 
 returns-2 : tie.Need-returns-2
 returns-2 c =
     let n = c .before .before .before .before .before in
     let s = lent-start n in
     let a = s .args in
-    read-refused (a .limit) (a .head) (a .dense-peak) (words-of s) (before-of s) (before-of s) _ _
-    (lent-passed (a .limit) (a .head) (words-of s) (lengthsOf (before-of s)) (a .dense-peak) _ (lent n) (c .before .before .before .before .if1 .left) _
+    read-refused (a .head) (a .dense-peak) (words-of s) (before-of s) (before-of s) _ _
+    (lent-passed (a .head) (words-of s) (lengthsOf (before-of s)) (a .dense-peak) _ (lent n) (c .before .before .before .before .if1 .left) _
     (sym (c .before .before .before .check-records .ensures) ∙ c .before .checked .given .1))
 
 same-length : tie.Need-same-length
@@ -251,10 +251,10 @@ returns-3 c =
     let walked = c .before .before .before .before .before .before .before .before .before .before .before .before .before .before .before .before .before in
     let s = walk-start walked in
     let a = s .args in
-    read-refused (a .limit) (a .head) (a .dense-peak) (words-of s) (before-of s) (walked-of walked) _ _
+    read-refused (a .head) (a .dense-peak) (words-of s) (before-of s) (walked-of walked) _ _
     (read-walk (walked .before .before .before .before .before .before .before .before)
     ∙ ap (afterWalk (a .head .«initial_k») (a .dense-peak))
-    (walk-stops (walkFrom (a .limit) 0 (start (a .head .«initial_k»)) (instructionsOf (words-of s))) _ _ _ (walked-of walked) (c .before .walked .given .1) (walked .walk .ensures)))
+    (walk-stops (walkFrom (a .head .ceiling) 0 (start (a .head .«initial_k»)) (instructionsOf (words-of s))) _ _ _ (walked-of walked) (c .before .walked .given .1) (walked .walk .ensures)))
 
 same-length-8 : tie.Need-same-length-8
 same-length-8 c = c .before .before .before .before .before .before .before .before .before .before .before .before .before .before .before .before .before .clear-rest .kept .1 .1 .0 ∙ same (c .before .before .before .before .before .before .before .before .before .before .before .before .before .before .before .before .before .before .before .before .before .before .before .before .before .before .before .before .before .before .before .before .before .before .before .before .before .before .before .before .before .before) .steps
@@ -285,12 +285,12 @@ returns-4 c =
     let s = walk-start walked in
     let n = w .before .before .before .before .before .before .before .before .before .before .before .before .before .before .before .before .before .before .before .before .before .before .before .before .before .before .before .before in
     let a = s .args in
-    read-planned (a .limit) (a .head) (a .dense-peak) (words-of s) (before-of s) (cleared-of cleared) (planFrom (a .head .«initial_k») (a .dense-peak) (ended w .0)) _
+    read-planned (a .head) (a .dense-peak) (words-of s) (before-of s) (cleared-of cleared) (planFrom (a .head .«initial_k») (a .dense-peak) (ended w .0)) _
     (read-walk (walked .before .before .before .before .before .before .before .before) ∙ ap (afterWalk (a .head .«initial_k») (a .dense-peak)) (ended w .1))
     (plan-same (a .head .«initial_k») (a .dense-peak) (ended w .0) (w .walked2 .given .0 .0) (walked-of walked) (c .before .allocated .result) _ _ (c .plan-of .result) (ended w .2)
     (c .before .allocated .ensures ∙ ap allocatedFor (sizes-front cleared))
     (whole-same (a .head .«initial_k») (words-of s) (ended w .0) (run w) (w .walked2 .given .0 .0) (walked-of walked) (ended w .2)
-    (lent-few (a .limit) (a .head) (words-of s) (lengthsOf (before-of s)) (a .dense-peak) _ (lent n) (w .before .before .before .before .before .before .before .before .before .before .before .before .before .before .before .before .before .before .before .before .before .before .before .before .before .before .before .if1 .left)))
+    (lent-few (a .head) (words-of s) (lengthsOf (before-of s)) (a .dense-peak) _ (lent n) (w .before .before .before .before .before .before .before .before .before .before .before .before .before .before .before .before .before .before .before .before .before .before .before .before .before .before .before .if1 .left)))
     (used-same (a .head .«initial_k») (words-of s) (ended w .0) (run w) (w .walked2 .given .0 .0) (walked-of walked) (ended w .2) (a .dense-peak))
     (c .plan-of .ensures))
     (held cleared)

@@ -11,10 +11,10 @@ use Rattle.replay.proofs.too_long.Statement.{statement}
 use Rattle.replay.proofs.too_long.Tie as tie
 
 abbrev Inv-loop : tie.InvT-loop
-Inv-loop head i₀ i = (i ≤ 11) × ((k : ℕ) → k < i → 3 ≤ k → getD head k 0 ≤ 4096)
+Inv-loop head i₀ i = (i ≤ 12) × ((k : ℕ) → k < i → 4 ≤ k → getD head k 0 ≤ 4096)
 
 abbrev μ-loop : tie.MeasureT-loop
-μ-loop head i₀ i = 11 - i
+μ-loop head i₀ i = 12 - i
 
 loop-holds : tie.Need-loop-holds Inv-loop μ-loop
 loop-holds c = (search needs, λ k below least. absurd (omega arith))
@@ -38,7 +38,7 @@ loop-again : tie.Need-loop-again Inv-loop μ-loop
 loop-again c =
     let at-loop = c .before .before .before in
     let head = now (at-loop .before .args .head) in
-    (search needs, below-more (λ (k : ℕ). 3 ≤ k → getD head k 0 ≤ 4096) (at-loop .loop .i) (at-loop .loop .inv .1) (λ least. c .if1 .left))
+    (search needs, below-more (λ (k : ℕ). 4 ≤ k → getD head k 0 ≤ 4096) (at-loop .loop .i) (at-loop .loop .inv .1) (λ least. c .if1 .left))
 
 returns-2 : tie.Need-returns-2 Inv-loop μ-loop
 returns-2 c = λ e. record { room = λ k least below. c .before .loop .inv .1 k (omega arith) least }

@@ -38,12 +38,12 @@ planned-of c = c .before .before .before .before .before .before .before .before
 abbrev plan-of : tie.After-planned2 → ActiveComponentPlan
 plan-of c = c .planned2 .given .0 .0
 
-answers : (c : tie.After-planned2) → let s = start-of (planned-of c) in Answers 62 (s .args .head) (now (s .args .records)) (before-of s) (between-of (planned-of c)) (P.Plan (plan-of c))
+answers : (c : tie.After-planned2) → let s = start-of (planned-of c) in Answers (s .args .head) (now (s .args .records)) (before-of s) (between-of (planned-of c)) (P.Plan (plan-of c))
 answers c = let s = start-of (planned-of c) in
-    subst (λ (r : Planned). Answers 62 (s .args .head) (now (s .args .records)) (before-of s) (between-of (planned-of c)) r) (c .planned2 .given .1) (planned-of c .build-active-component-plan .ensures)
+    subst (λ (r : Planned). Answers (s .args .head) (now (s .args .records)) (before-of s) (between-of (planned-of c)) r) (c .planned2 .given .1) (planned-of c .build-active-component-plan .ensures)
 
-fits : (c : tie.After-planned2) → let s = start-of (planned-of c) in Inside 62 (s .args .head) (now (s .args .records)) (before-of s) (between-of (planned-of c)) (plan-of c) (answers c)
-fits c = let s = start-of (planned-of c) in inside 62 (s .args .head) (now (s .args .records)) (before-of s) (between-of (planned-of c)) (plan-of c) (answers c)
+fits : (c : tie.After-planned2) → let s = start-of (planned-of c) in Inside (s .args .head) (now (s .args .records)) (before-of s) (between-of (planned-of c)) (plan-of c) (answers c)
+fits c = let s = start-of (planned-of c) in inside (s .args .head) (now (s .args .records)) (before-of s) (between-of (planned-of c)) (plan-of c) (answers c)
 
 -- so many words are in front
 front : (n : ℕ) (xs : List ℕ) → n ≤ length xs → n ≡ length (take n xs)
@@ -100,7 +100,7 @@ returns c =
     let s = start-of (planned-of w) in
     let short = c .before .before .before .before .before .before .before .before .before .before .before .before .before .before .before .before .before .before .before .before .before .before .before .before .before .before .if1 .taken in
     let words = c .before .before .before .before .before .before .before .before .before .before .before .before .before .before .before .before .before .before .before .before .before .before .before .before .before .before .before .word-count .ensures in
-    stores-short 62 (s .args .head) (now (s .args .records)) (before-of s) (between-of (planned-of w)) (plan-of w) (answers w) (record { steps = c .before .before .before .before .before .before .before .before .before .before .before .before .before .before .before .before .before .before .clear-all .last .0; merges = c .before .before .before .before .before .before .before .before .before .before .before .before .before .before .before .before .before .before .clear-all .last .1 .0; sizes = c .before .before .before .before .before .before .before .before .before .before .before .before .before .before .before .before .before .before .clear-all .last .1 .1 .0; rotations = c .before .before .before .before .before .before .before .before .before .before .before .before .before .before .before .before .before .before .clear-all .last .1 .1 .1 .0; promotions = c .before .before .before .before .before .before .before .before .before .before .before .before .before .before .before .before .before .before .clear-all .last .1 .1 .1 .1 .0; measurements = c .before .before .before .before .before .before .before .before .before .before .before .before .before .before .before .before .before .before .clear-all .last .1 .1 .1 .1 .1 .0; groups = c .before .before .before .before .before .before .before .before .before .before .before .before .before .before .before .before .before .before .clear-all .last .1 .1 .1 .1 .1 .1 .0 }) (now (s .args .file)) (c .before .before .clear-bytes2 .last .0)
+    stores-short (s .args .head) (now (s .args .records)) (before-of s) (between-of (planned-of w)) (plan-of w) (answers w) (record { steps = c .before .before .before .before .before .before .before .before .before .before .before .before .before .before .before .before .before .before .clear-all .last .0; merges = c .before .before .before .before .before .before .before .before .before .before .before .before .before .before .before .before .before .before .clear-all .last .1 .0; sizes = c .before .before .before .before .before .before .before .before .before .before .before .before .before .before .before .before .before .before .clear-all .last .1 .1 .0; rotations = c .before .before .before .before .before .before .before .before .before .before .before .before .before .before .before .before .before .before .clear-all .last .1 .1 .1 .0; promotions = c .before .before .before .before .before .before .before .before .before .before .before .before .before .before .before .before .before .before .clear-all .last .1 .1 .1 .1 .0; measurements = c .before .before .before .before .before .before .before .before .before .before .before .before .before .before .before .before .before .before .clear-all .last .1 .1 .1 .1 .1 .0; groups = c .before .before .before .before .before .before .before .before .before .before .before .before .before .before .before .before .before .before .clear-all .last .1 .1 .1 .1 .1 .1 .0 }) (now (s .args .file)) (c .before .before .clear-bytes2 .last .0)
     (omega (arith, short, words)) (same (planned-of w)) (c .before .before .before .before .before .before .before .before .before .before .before .before .before .before .before .before .before .before .clear-all .ensures) (c .before .before .clear-bytes2 .ensures)
 
 slice-reshare-prefix-write-file : tie.Need-slice-reshare-prefix-write-file
@@ -188,8 +188,8 @@ returns-2 c =
     let told = c .before .before .before .before .before .planned .given in
     let call = c .before .before .before .before .before .before .before .before .before .before .before .before .before .before .before .before .before .before .before .before .before in
     let s = start-of call in
-    stores-refused 62 (s .args .head) (now (s .args .records)) (before-of s) (between-of call) (told .0 .0) (told .0 .1 .0) (now (s .args .file)) (c .before .before .clear-bytes .last .0)
-    (subst (λ (r : Planned). Answers 62 (s .args .head) (now (s .args .records)) (before-of s) (between-of call) r) (told .1) (call .build-active-component-plan .ensures))
+    stores-refused (s .args .head) (now (s .args .records)) (before-of s) (between-of call) (told .0 .0) (told .0 .1 .0) (now (s .args .file)) (c .before .before .clear-bytes .last .0)
+    (subst (λ (r : Planned). Answers (s .args .head) (now (s .args .records)) (before-of s) (between-of call) r) (told .1) (call .build-active-component-plan .ensures))
     (c .before .before .clear-bytes .ensures)
 
 same-length-17 : tie.Need-same-length-17
@@ -222,8 +222,8 @@ returns-3 c =
     let s = start-of (planned-of w) in
     let room = c .before .before .before .before .before .before .before .before .before .before .if1 .left in
     let words = c .before .before .before .before .before .before .before .before .before .before .before .word-count .ensures in
-    subst (λ (n : ℕ). Stores 62 (s .args .head) (now (s .args .records)) (before-of s) (between-of (planned-of w)) (now (s .args .file)) (c .before .before .write-file .last .1 .1 .1 .1 .1 .1 .1 .0) (S.File (8 * n))) (sym words)
-    (stores-file 62 (s .args .head) (now (s .args .records)) (before-of s) (between-of (planned-of w)) (plan-of w) (answers w) (now (s .args .file)) (c .before .before .write-file .last .1 .1 .1 .1 .1 .1 .1 .0)
+    subst (λ (n : ℕ). Stores (s .args .head) (now (s .args .records)) (before-of s) (between-of (planned-of w)) (now (s .args .file)) (c .before .before .write-file .last .1 .1 .1 .1 .1 .1 .1 .0) (S.File (8 * n))) (sym words)
+    (stores-file (s .args .head) (now (s .args .records)) (before-of s) (between-of (planned-of w)) (plan-of w) (answers w) (now (s .args .file)) (c .before .before .write-file .last .1 .1 .1 .1 .1 .1 .1 .0)
     (omega (arith, room, words)) (c .before .before .write-file .ensures))
 
 pub store-spec : {M : Type 1} → statement M

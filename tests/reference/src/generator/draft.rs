@@ -1,7 +1,7 @@
 //! A program that grows record by record. Every record fits until one is spoiled.
 
 use super::random::Random;
-use crate::input::{Program, RECORD_WORDS};
+use crate::input::{LARGEST_CEILING, Program, RECORD_WORDS};
 use crate::refusals::{MOST_COORDINATES, MOST_WIDTH, least_lengths};
 
 pub const ROTATION: u64 = 0;
@@ -341,6 +341,7 @@ impl Draft {
             initial_k: self.initial_k,
             max_k: self.max_k.unwrap_or(chosen),
             nexpvals: self.nexpvals,
+            ceiling: LARGEST_CEILING,
             lengths,
             words: self.words,
         }

@@ -4,7 +4,7 @@
 use super::draft::{PROMOTION, low_bits};
 use super::edits::{self, Edit, Words};
 use super::small::program;
-use crate::input::Program;
+use crate::input::{LARGEST_CEILING, Program};
 use crate::refusals::least_lengths;
 
 /// A record that planning passes over.
@@ -65,6 +65,7 @@ fn of_heads() -> Vec<Program> {
                     initial_k,
                     max_k,
                     nexpvals,
+                    ceiling: LARGEST_CEILING,
                     lengths,
                     words: words.clone(),
                 });

@@ -2,7 +2,7 @@
 
 use super::draft::{MEASUREMENT, PROMOTION, ROTATION, floats};
 use super::edits::Words;
-use crate::input::{Program, Record};
+use crate::input::{LARGEST_CEILING, Program, Record};
 
 /// How far masks, phases and pivots go.
 struct Limits {
@@ -59,6 +59,7 @@ pub(super) fn program(initial_k: u64, records: &[Words]) -> Program {
         initial_k,
         max_k: 8,
         nexpvals: 0,
+        ceiling: LARGEST_CEILING,
         lengths: None,
         words: records.concat(),
     }

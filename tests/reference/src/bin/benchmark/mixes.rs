@@ -144,6 +144,7 @@ fn prepared(program: Program, room: &mut Room) -> Result<Prepared, String> {
             initial_k: program.initial_k,
             max_k: program.max_k,
             nexpvals: program.nexpvals,
+            ceiling: program.ceiling,
         },
         rust: rust_program(&program, &program.records())?,
         live: groups_in(&expected.outputs[6]),

@@ -5,7 +5,7 @@ use midvokt_reference::answer::{Answer, answer};
 use midvokt_reference::component_plan;
 use midvokt_reference::expected::{Expected, RESULT_WORDS};
 use midvokt_reference::generator::Numbers;
-use midvokt_reference::input::{Program, RECORD_WORDS};
+use midvokt_reference::input::{LARGEST_CEILING, Program, RECORD_WORDS};
 use midvokt_reference::refusals::least_lengths;
 use midvokt_reference::stored_file;
 
@@ -16,6 +16,9 @@ use crate::kernels;
 use crate::memory::{Lent, Memory};
 use crate::tally::Tally;
 use crate::wanted::Wanted;
+
+/// The lengths of the lent buffers and what differs.
+pub type Found = Option<([u64; 7], String)>;
 
 /// The refusal that depends on the buffers' lengths.
 const SHORT_BUFFERS: u64 = 3;
@@ -85,7 +88,7 @@ impl Comparison {
 
     /// Two calls: with the program's own lengths, or just long enough ones, and a whole
     /// result; then, for some programs, with longer buffers and a result of another length.
-    fn calls(&mut self, program: &Program, expected: &Expected) -> Option<([u64; 7], String)> {
+    fn calls(&mut self, program: &Program, expected: &Expected) -> Found {
         let least = least_lengths((program.words.len() / RECORD_WORDS) as u64);
         let lengths = program.lengths.unwrap_or(least);
         if let Some(found) = self.call(program, expected, lengths, RESULT_WORDS) {
@@ -137,6 +140,23 @@ impl Comparison {
         }
     }
 
+    /// What differs where a program is planned, stored and loaded.
+    fn planned_and_stored(&mut self, program: &Program, expected: &Expected, file: &[u8]) -> Found {
+        self.calls(program, expected)
+            .or_else(|| files::compare(self, program, expected, file))
+    }
+
+    /// What differs at the ceiling 62, where a plan under a smaller one has to be the same.
+    fn at_62(&mut self, program: &Program, expected: &Expected, file: &[u8]) -> Found {
+        if program.ceiling == LARGEST_CEILING || expected.number != 0 {
+            return None;
+        }
+        let found = self.planned_and_stored(&program.under(LARGEST_CEILING), expected, file);
+        self.tally.ceilings.same_at_62 += u64::from(found.is_none());
+        let (lengths, found) = found?;
+        Some((lengths, format!("at ceiling 62, {found}")))
+    }
+
     /// Compares one program. An error is something that was not foreseen.
     pub fn compare(&mut self, index: u64, program: &Program) -> Result<(), String> {
         // The same lengths and noise for a program, whichever thread compares it.
@@ -147,14 +167,15 @@ impl Comparison {
             return Ok(());
         };
         self.tally.count(program, &expected);
+        self.tally.ceilings.count(program, &expected)?;
         let typed = self.typed(program, &answer, &expected);
         let mut file = stored_file::of(&expected).unwrap_or_default();
         if self.spoiled == Some(index) {
             spoil(&mut expected, &mut file, index);
         }
         let mut shown = program.clone();
-        let found = self.calls(program, &expected);
-        let found = match found.or_else(|| files::compare(self, program, &expected, &file)) {
+        let found = self.planned_and_stored(program, &expected, &file);
+        let found = match found.or_else(|| self.at_62(program, &expected, &file)) {
             Some((lengths, found)) => {
                 shown.lengths = Some(lengths);
                 Some(found)
@@ -175,5 +196,6 @@ pub fn head(program: &Program) -> Head {
         initial_k: program.initial_k,
         max_k: program.max_k,
         nexpvals: program.nexpvals,
+        ceiling: program.ceiling,
     }
 }

@@ -5,7 +5,7 @@ use midvokt_reference::expected::Expected;
 use midvokt_reference::input::{Program, RECORD_WORDS};
 use midvokt_reference::refusals::least_lengths;
 
-use crate::compare::{Comparison, head};
+use crate::compare::{Comparison, Found, head};
 use crate::memory::Lent;
 use crate::tally::TOO_SHORT;
 use crate::wanted::Wanted;
@@ -18,9 +18,6 @@ const LOAD_WORDS: usize = 15;
 const STORED_OUTPUTS: usize = 6;
 /// Bytes lent for the file of a program that is refused.
 const REFUSED_FILES: [usize; 6] = [0, 1, 127, 128, 192, 1000];
-
-/// The lengths of the lent buffers and what differs.
-type Found = Option<([u64; 7], String)>;
 
 /// Outputs without a used word.
 static NOTHING: [Vec<u64>; 7] = [const { Vec::new() }; 7];

@@ -8,11 +8,19 @@
 //! program is stored, where every byte of the file counts too, and each file is loaded again.
 //!
 //! Programs: the stored ones, all with up to two records over small widths, those with
-//! several faults at once, and random ones. `differential [--spoil N] [SEED [COUNT]]`.
+//! several faults at once, and random ones. These have the ceiling 62, and the Rust is their
+//! reference. Then as much is compared for programs under other ceilings, with the oracle's
+//! reading of them, and each that gets a plan has to get the same plan and file at 62.
+//!
+//!     differential [--spoil N] [SEED [COUNT [CEILINGS]]]
+//!
+//! COUNT random programs at 62 and CEILINGS under other ceilings. The programs under ceilings have
+//! the numbers behind the others for --spoil.
 //!
 //! Exit status: 0 no difference, 1 a difference or a refusal that never occurred, 2 a
 //! malformed option, 3 anything that was not foreseen.
 
+mod ceilings;
 mod compare;
 mod complex;
 mod dropin;
@@ -40,6 +48,8 @@ const SHARE: u64 = 32;
 struct Options {
     seed: u64,
     count: u64,
+    /// How many random programs are under ceilings.
+    ceilings: u64,
     spoiled: Option<u64>,
 }
 
@@ -48,6 +58,7 @@ fn options() -> Result<Options, String> {
     let mut options = Options {
         seed: 1,
         count: 200_000,
+        ceilings: 100_000,
         spoiled: None,
     };
     let number = |text: Option<String>| {
@@ -59,11 +70,16 @@ fn options() -> Result<Options, String> {
     if words.next_if(|word| word == "--spoil").is_some() {
         options.spoiled = Some(number(words.next())?);
     }
-    if words.peek().is_some() {
-        options.seed = number(words.next())?;
-    }
-    if words.peek().is_some() {
-        options.count = number(words.next())?;
+    let Options {
+        seed,
+        count,
+        ceilings,
+        ..
+    } = &mut options;
+    for option in [seed, count, ceilings] {
+        if words.peek().is_some() {
+            *option = number(words.next())?;
+        }
     }
     match words.next() {
         None => Ok(options),
@@ -80,7 +96,7 @@ fn work(inputs: &Inputs, spoiled: Option<u64>, next: &AtomicU64) -> Result<Tally
             return Ok(comparison.tally);
         }
         for index in start..inputs.len().min(start + SHARE) {
-            let program = inputs.program(index);
+            let program = inputs.program(index)?;
             comparison
                 .compare(index, &program)
                 .map_err(|trouble| format!("program {index}: {trouble}\n{}", program.text()))?;
@@ -104,18 +120,37 @@ fn compare_all(inputs: &Inputs, spoiled: Option<u64>) -> Result<Tally, String> {
     })
 }
 
-/// The whole run; true where nothing differs and nothing is missing.
-fn run(options: &Options) -> Result<bool, String> {
-    machine::check_exact_powers()?;
-    let inputs = Inputs::new(options.seed, options.count)?;
-    if options.spoiled.is_some_and(|index| index >= inputs.len()) {
-        return Err(format!("there are only {} programs", inputs.len()));
-    }
-    let mut tally = compare_all(&inputs, options.spoiled)?;
+/// Compares the programs at the ceiling 62; true where nothing differs and nothing is missing.
+fn run_at_62(inputs: &Inputs, spoiled: Option<u64>) -> Result<bool, String> {
+    let mut tally = compare_all(inputs, spoiled)?;
     tally.defaults = kernels::compare_defaults();
     println!("{}", inputs.text());
     println!("{}", tally.text());
     Ok(tally.is_good())
+}
+
+/// The same for programs under other ceilings.
+fn run_under_ceilings(inputs: &Inputs, spoiled: Option<u64>) -> Result<bool, String> {
+    let tally = compare_all(inputs, spoiled)?;
+    println!("{}", inputs.text());
+    println!("{}", tally.text_under_ceilings());
+    Ok(tally.is_good_under_ceilings())
+}
+
+/// The whole run; true where nothing differs and nothing is missing.
+fn run(options: &Options) -> Result<bool, String> {
+    machine::check_exact_powers()?;
+    let at_62 = Inputs::at_62(options.seed, options.count)?;
+    let under = Inputs::under_ceilings(options.seed, options.ceilings)?;
+    let all = at_62.len() + under.len();
+    if options.spoiled.is_some_and(|index| index >= all) {
+        return Err(format!("there are only {all} programs"));
+    }
+    let behind = options
+        .spoiled
+        .and_then(|index| index.checked_sub(at_62.len()));
+    let is_good = run_at_62(&at_62, options.spoiled)?;
+    Ok(run_under_ceilings(&under, behind)? && is_good)
 }
 
 fn main() -> ExitCode {

@@ -4,10 +4,13 @@ use midvokt_reference::expected::Expected;
 use midvokt_reference::input::Program;
 use midvokt_reference::whole;
 
+use crate::ceilings::Ceilings;
 use crate::results::Results;
 
-/// Planning's refusals have numbers up to this one.
+/// Planning's refusals have numbers up to this one, but for that of the ceiling.
 const LAST_REFUSAL: usize = 20;
+/// 02's number for a ceiling outside 1 to 62.
+const NO_CEILING: usize = 24;
 /// 02's number for a file or an output that is too short.
 pub const TOO_SHORT: u64 = 23;
 
@@ -64,11 +67,12 @@ impl Stored {
 #[derive(Default)]
 pub struct Tally {
     /// Place 0 counts plans, the others refusals.
-    answers: [u64; LAST_REFUSAL + 1],
+    answers: [u64; NO_CEILING + 1],
     selected: u64,
     /// Plans by the mark of their whole works.
     marks: [u64; MARKS.len()],
     reached: [u64; REACHED.len()],
+    pub ceilings: Ceilings,
     pub incomparable: u64,
     pub calls: u64,
     pub typed: u64,
@@ -158,6 +162,7 @@ impl Tally {
         add(&mut self.answers, &other.answers);
         add(&mut self.marks, &other.marks);
         add(&mut self.reached, &other.reached);
+        self.ceilings.add(&other.ceilings);
         self.selected += other.selected;
         self.incomparable += other.incomparable;
         self.calls += other.calls;
@@ -192,15 +197,30 @@ impl Tally {
         self.all_differences() == 0 && self.missing().is_empty()
     }
 
-    /// How much was compared.
-    fn compared(&self) -> [String; 4] {
+    /// What programs under ceilings never came to.
+    fn missing_under_ceilings(&self) -> Vec<&'static str> {
+        let counts = self.under_ceilings().into_iter();
+        let never = counts.filter(|(_, count)| *count == 0);
+        never.map(|(name, _)| name).collect()
+    }
+
+    /// Whether nothing differs under ceilings and all that they can come to occurred.
+    pub fn is_good_under_ceilings(&self) -> bool {
+        self.all_differences() == 0 && self.missing_under_ceilings().is_empty()
+    }
+
+    /// How many results of methods were compared.
+    fn compared_methods(&self) -> String {
+        format!(
+            "kernel methods compared {}, complex results compared {}",
+            self.methods, self.numbers
+        )
+    }
+
+    /// How many files were compared.
+    fn compared_files(&self) -> [String; 2] {
         let Self { stores, loads, .. } = self;
         [
-            format!("calls compared {}, typed calls {}", self.calls, self.typed),
-            format!(
-                "defaults compared {}, kernel methods compared {}, complex results compared {}",
-                self.defaults.count, self.methods, self.numbers
-            ),
             format!(
                 "stored files compared {}, refused 23 for a short file: {}, refused as planning is: {}",
                 stores.done, stores.short, stores.refused
@@ -212,24 +232,56 @@ impl Tally {
         ]
     }
 
-    /// The report.
-    pub fn text(&self) -> String {
-        let mut lines = vec![
+    /// How many programs there were of each answer.
+    fn answered(&self) -> [String; 2] {
+        [
             format!(
                 "plans {}, of them selected {}",
                 self.answers[0], self.selected
             ),
             format!("incomparable {}", self.incomparable),
+        ]
+    }
+
+    /// How many calls were compared.
+    fn compared_calls(&self) -> String {
+        format!("calls compared {}, typed calls {}", self.calls, self.typed)
+    }
+
+    /// What programs under ceilings came to, by name.
+    fn under_ceilings(&self) -> Vec<(&'static str, u64)> {
+        let others = (2..=LAST_REFUSAL).filter(|&number| number != 14);
+        let mut counts = vec![
+            ("refused 24", self.answers[NO_CEILING]),
+            ("refused 1", self.answers[1]),
+            ("refused 14", self.answers[14]),
         ];
-        lines.extend((1..=LAST_REFUSAL).map(|n| format!("refused {n}: {}", self.answers[n])));
-        let marks = MARKS.iter().zip(self.marks);
-        lines.extend(marks.map(|(name, count)| format!("plans {name}: {count}")));
-        let reached = REACHED.iter().zip(self.reached);
-        lines.extend(reached.map(|(name, count)| format!("plans with {name}: {count}")));
-        lines.extend(self.compared());
-        if !self.missing().is_empty() {
-            lines.push(format!("never refused: {}", self.missing().join(", ")));
+        counts.extend(self.ceilings.counts());
+        counts.push((
+            "refused otherwise",
+            others.map(|number| self.answers[number]).sum(),
+        ));
+        counts
+    }
+
+    /// The report of a run under ceilings.
+    pub fn text_under_ceilings(&self) -> String {
+        let counts = self.under_ceilings().into_iter();
+        let mut lines = self.answered().to_vec();
+        lines.extend(counts.map(|(name, count)| format!("{name}: {count}")));
+        lines.extend([self.compared_calls(), self.compared_methods()]);
+        lines.extend(self.compared_files());
+        let missing = self.missing_under_ceilings();
+        if !missing.is_empty() {
+            lines.push(format!("never occurred: {}", missing.join(", ")));
         }
+        lines.extend(self.found());
+        lines.join("\n")
+    }
+
+    /// What differs, and how many programs do.
+    fn found(&self) -> Vec<String> {
+        let mut lines = Vec::new();
         if let Some((index, text)) = &self.first {
             lines.push(format!("program {index} differs: {text}"));
         }
@@ -237,6 +289,25 @@ impl Tally {
             lines.push(format!("a default differs: {found}"));
         }
         lines.push(format!("differences {}", self.all_differences()));
+        lines
+    }
+
+    /// The report.
+    pub fn text(&self) -> String {
+        let mut lines = self.answered().to_vec();
+        lines.extend((1..=LAST_REFUSAL).map(|n| format!("refused {n}: {}", self.answers[n])));
+        let marks = MARKS.iter().zip(self.marks);
+        lines.extend(marks.map(|(name, count)| format!("plans {name}: {count}")));
+        let reached = REACHED.iter().zip(self.reached);
+        lines.extend(reached.map(|(name, count)| format!("plans with {name}: {count}")));
+        let (defaults, methods) = (self.defaults.count, self.compared_methods());
+        lines.push(self.compared_calls());
+        lines.push(format!("defaults compared {defaults}, {methods}"));
+        lines.extend(self.compared_files());
+        if !self.missing().is_empty() {
+            lines.push(format!("never refused: {}", self.missing().join(", ")));
+        }
+        lines.extend(self.found());
         lines.join("\n")
     }
 }
