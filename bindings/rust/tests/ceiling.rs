@@ -168,11 +168,11 @@ fn max_k_is_refused_before_records_and_buffers() {
     }
 }
 
-#[test]
-fn a_rotation_joins_fewer_than_the_ceiling() {
+/// A record that joins so many of 62 coordinates, behind one that plans nothing, has a plan just
+/// below each ceiling, and none from there on.
+fn joins_fewer_than_the_ceiling(join: impl Fn(u64) -> [Record; 2]) {
     for ceiling in READING {
         let head = head(62, ceiling);
-        let join = |count| [Record::DormantBranch, rotation(62, mask(0, count))];
         let plan = accepted(&head, &join(ceiling - 1));
         assert_eq!(plan.component_max_k[0], ceiling as usize - 1);
         for count in ceiling..=62 {
@@ -182,16 +182,15 @@ fn a_rotation_joins_fewer_than_the_ceiling() {
 }
 
 #[test]
+fn a_rotation_joins_fewer_than_the_ceiling() {
+    joins_fewer_than_the_ceiling(|count| [Record::DormantBranch, rotation(62, mask(0, count))]);
+}
+
+#[test]
 fn a_measurement_joins_fewer_than_the_ceiling() {
-    for ceiling in READING {
-        let head = head(62, ceiling);
-        let join = |count| [Record::RecordDetector, measurement(62, mask(0, count), 1)];
-        let plan = accepted(&head, &join(ceiling - 1));
-        assert_eq!(plan.component_max_k[0], ceiling as usize - 1);
-        for count in ceiling..=62 {
-            assert_eq!(told(&head, &join(count)), (Reason::ComponentSize, 1));
-        }
-    }
+    joins_fewer_than_the_ceiling(|count| {
+        [Record::RecordDetector, measurement(62, mask(0, count), 1)]
+    });
 }
 
 #[test]

@@ -23,7 +23,8 @@ scalarsOf p =
     flagWord (p .selected) ∷ p .initialComponents ∷ p .componentCount ∷ bitsWord (p .denseWork) ∷ bitsWord (p .componentWork)
     ∷ p .densePeak ∷ p .peak ∷ p .allocated ∷ []
 
--- "the first six outputs of 01 in its order, used words only, then the eight scalar fields"; "CR 1's numbers and the group list are not stored"
+-- "the first six outputs of 01 in its order, used words only, then the eight scalar fields"; "CR 1's numbers and the group list are not stored",
+-- nor is CR 4's ceiling, which is no field of a plan
 abbrev pub keptOf : Plan → Kept
 keptOf p = record {
   steps = p .steps;
