@@ -94,22 +94,22 @@ module _ (ceiling other : ℕ) where
 
   -- ---- the walk under another ceiling
 
-  -- what a step joins is counted in the longest sizes behind it
+  -- what a join gathers is counted in the longest sizes behind it
+  join-counted : (w v : Walk) (r : ActiveOrder) → Tracked w r → (x z : ℕ) → 0 < length (w .order) → LongStep w (joinOf x z w .components) v
+      → ((c : ℕ) → getD (v .longest) c 0 < other) → length (joinOf x z w .members) < other
+  join-counted w v r t x z active long all =
+      let c = joinOf x z w .component in
+      let e = ap length (target-members w r t x z active) in
+      let f = long c in
+      let g = all c in omega arith
+
   joins-counted : {w v : Walk} {i : Instruction} (r : ActiveOrder) (s : Stepped ceiling w i v) → Tracked w r → LongStep w (joinedComponents s) v
       → ((c : ℕ) → getD (v .longest) c 0 < other) → Joins s
   unfolding joinedComponents
   joins-counted r (ignored x z phase angle sine cosine empty) t long all = tt
-  joins-counted {w = w} r (rotated width x z phase angle sine cosine k wide active small fits made) t long all =
-      let c = joinOf x z w .component in
-      let e = ap length (target-members w r t x z active) in
-      let f = long c in
-      let g = all c in omega arith
+  joins-counted {w = w} {v = v} r (rotated width x z phase angle sine cosine k wide active small fits made) t long all = join-counted w v r t x z active long all
   joins-counted r promoted t long all = tt
-  joins-counted {w = w} r (measured width x z phase pivot k wide active small fits within inside made) t long all =
-      let c = joinOf x z w .component in
-      let e = ap length (target-members w r t x z active) in
-      let f = long c in
-      let g = all c in omega arith
+  joins-counted {w = w} {v = v} r (measured width x z phase pivot k wide active small fits within inside made) t long all = join-counted w v r t x z active long all
   joins-counted r recorded t long all = tt
   joins-counted r detected t long all = tt
   joins-counted r expected t long all = tt
@@ -142,6 +142,7 @@ module _ (ceiling other : ℕ) where
 
 -- ---- plans under another ceiling
 
+-- what has a dimension is below the ceiling
 given-below : (ceiling k d : ℕ) → dimension ceiling k ≡ some d → (k < ceiling) × (k < 64)
 given-below ceiling k d e = dimension-below ceiling k (ap isNone e)
 
@@ -150,11 +151,13 @@ longest-below : {ceiling : ℕ} (k : ℕ) {is : List Instruction} {u : Walk} →
 longest-below {ceiling = ceiling} k least run = reached-longest (min ceiling 64) (omega arith) (omega arith) k run
 
 module _ (h : Head) (ws : List ℕ) (l : Lengths) (p : Plan) (e : planOf h ws l ≡ planned p) where
+  -- its ceiling is one of 1 to 62
   bounds : (1 ≤ h .ceiling) × (h .ceiling ≤ 62)
   bounds =
       let o = or-false (ltb (h .ceiling) 1) (ltb 62 (h .ceiling)) (ceiling-passed h ws l p e .0) in
       (ltb-false (h .ceiling) 1 (o .0), ltb-false 62 (h .ceiling) (o .1))
 
+  -- max_k has its dimension, so it is below the ceiling
   peak-given : (d : ℕ) × (dimension (h .ceiling) (h .«max_k») ≡ some d)
   peak-given = go (dimension (h .ceiling) (h .«max_k»)) refl (ceiling-passed h ws l p e .1)
     where
@@ -172,6 +175,7 @@ module _ (h : Head) (ws : List ℕ) (l : Lengths) (p : Plan) (e : planOf h ws l 
       let wide = ltb-false (h .«max_k») 8 (o .0) in
       let below = max-is-below in omega arith
 
+  -- so is every longest size; a plan that read nothing has none
   sizes-are-below : (c : ℕ) → getD (p .sizes) c 0 < h .ceiling
   unfolding planFrom unreadPlan start
   sizes-are-below c = go (unread h) refl
@@ -204,6 +208,7 @@ module _ (h : Head) (ws : List ℕ) (l : Lengths) (p : Plan) (e : planOf h ws l 
     same-peak : dimension ceiling (h .«max_k») ≡ dimension (h .ceiling) (h .«max_k»)
     same-peak = same-dimension (h .ceiling) ceiling (h .«max_k») max-is-below max-fits (holds .max-below)
 
+    -- the walk ends in the same state, so the same plan is read
     walks : (a : Accepted h ws l p) → walkFrom ceiling 0 (start (h .«initial_k»)) (instructionsOf ws) ≡ finished (a .last)
     unfolding planFrom
     walks a =
@@ -240,6 +245,22 @@ module _ (h : Head) (ws : List ℕ) (l : Lengths) (p : Plan) (e : planOf h ws l 
   at-the-largest =
       let b = bounds in
       same-plan 62 (record { least = omega arith; most = omega arith; max-below = (let m = max-is-below in omega arith); sizes-below = λ c. (let s = sizes-are-below c in omega arith) })
+
+-- under another ceiling a program with a plan has that plan or none, and has it only where the ceiling holds it
+pub no-other : (h : Head) (ws : List ℕ) (l : Lengths) (p : Plan) → planOf h ws l ≡ planned p
+    → (ceiling : ℕ) (q : Plan) → planOf (under ceiling h) ws l ≡ planned q → (q ≡ p) × HoldsPlan ceiling h p
+no-other h ws l p e ceiling q f =
+    let both : planned q ≡ planned p = sym (at-the-largest (under ceiling h) ws l q f) ∙ at-the-largest h ws l p e in
+    let same : q ≡ p = cc in
+    let held = plan-held (under ceiling h) ws l q f in (
+      same,
+      record {
+        least = held .least;
+        most = held .most;
+        max-below = held .max-below;
+        sizes-below = λ c. subst (λ (x : Plan). getD (x .sizes) c 0 < ceiling) same (held .sizes-below c);
+      },
+    )
 
 -- ---- every dimension that is asked for
 

@@ -1,5 +1,6 @@
 // Replays fixed vectors against the proved planner and prints how many agree. Standard input holds them: programs with the
-// answers of the published Rust, as tests/vectors/make writes and describes them.
+// answers of the published Rust, and under ceilings below 62 with those made of its answers, as tests/vectors/make writes
+// and describes them.
 ghost use mathlib.Core.Path.{_≡_};
 ghost use mathlib.Core.Bool.{true, false};
 ghost use Prim.Native.Nat.{_+_, _≤_, _<_};
