@@ -260,7 +260,7 @@ enum midvokt_whole_mark {
 /* A file is a run of words of 64 bits, each as eight bytes, the lowest first. First come seven
  * sections, in this order, from word 0 on, each right behind the one before it: the first six
  * outputs, used words only, and the scalar fields. Behind them a trailer of sixteen words ends
- * the file. The groups and the whole works are not stored.
+ * the file. The groups, the whole works and the ceiling are not stored.
  *
  *   steps         two words for each record
  *   merges        the sources of all rows
@@ -414,10 +414,10 @@ enum midvokt_number {
  *               length
  *
  * Where max_k is below 8 or nexpvals is not 0 (and the ceiling is 1 to 62 and max_k below it)
- * records and buffer lengths are not looked at, and there is a plan: not selected, the dense peak 2 to the power
- * of max_k, initial_k copied into the result whatever it is, the mark 1 (both works are 0),
- * and all else zero, all outputs too. To tell such a plan from one whose records were read,
- * look at max_k and nexpvals.
+ * records and buffer lengths are not looked at, and there is a plan: not selected, the dense
+ * peak 2 to the power of max_k, initial_k copied into the result whatever it is, the mark 1
+ * (both works are 0), and all else zero, all outputs too. To tell such a plan from one whose
+ * records were read, look at max_k and nexpvals.
  */
 uint64_t midvokt_plan(uint64_t initial_k, uint64_t max_k, uint64_t nexpvals, uint64_t ceiling,
                       const uint64_t *records, size_t records_len,
@@ -441,11 +441,11 @@ uint64_t midvokt_plan(uint64_t initial_k, uint64_t max_k, uint64_t nexpvals, uin
  *               and fewer may be. The bytes behind the file are zero
  *   result      the refused record and the file's length in bytes; of any length
  *
- * The file is the first so many bytes of the buffer: a trailer stands at the end of a file, so
- * that the bytes behind must not be kept with it. The file does not hold the ceiling: a plan has
- * the same file at each ceiling that it is given at, and its sizes tell which controllers hold it,
- * those whose ceiling is above every one of them. After any refusal all seven outputs and all
- * bytes of the buffer are zero.
+ * The file is the first so many bytes of the buffer: a trailer stands at the end of a file,
+ * so that the bytes behind must not be kept with it. The file does not hold the ceiling: a
+ * plan has the same file at each ceiling that it is given at, and its sizes tell which
+ * controllers hold it, those whose ceiling is above every one of them. After any refusal all
+ * seven outputs and all bytes of the buffer are zero.
  */
 uint64_t midvokt_store(uint64_t initial_k, uint64_t max_k, uint64_t nexpvals, uint64_t ceiling,
                        const uint64_t *records, size_t records_len,
