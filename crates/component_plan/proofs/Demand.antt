@@ -118,28 +118,18 @@ call-dimensions h ws before after r a wide none =
     dimensions-padded h ws (lengthsOf before) p (planIn r after) (accepted h ws (lengthsOf before) p (read-head h wide none) (found .1)) (found .2)
     (plan-dimensions h ws (lengthsOf before) p (found .1) wide none)
 
--- buffers that hold the same words, each by each
-each-same : (a b : Buffers) → a .steps ≡ b .steps → a .merges ≡ b .merges → a .sizes ≡ b .sizes → a .rotations ≡ b .rotations → a .promotions ≡ b .promotions → a .measurements ≡ b .measurements → a .groups ≡ b .groups → a ≡ b
-each-same a b steps merges sizes rotations promotions measurements groups =
-    ap (λ (ws : List ℕ). record { steps = ws; merges = a .merges; sizes = a .sizes; rotations = a .rotations; promotions = a .promotions; measurements = a .measurements; groups = a .groups }) steps
-    ∙ ap (λ (ws : List ℕ). record { steps = b .steps; merges = ws; sizes = a .sizes; rotations = a .rotations; promotions = a .promotions; measurements = a .measurements; groups = a .groups }) merges
-    ∙ ap (λ (ws : List ℕ). record { steps = b .steps; merges = b .merges; sizes = ws; rotations = a .rotations; promotions = a .promotions; measurements = a .measurements; groups = a .groups }) sizes
-    ∙ ap (λ (ws : List ℕ). record { steps = b .steps; merges = b .merges; sizes = b .sizes; rotations = ws; promotions = a .promotions; measurements = a .measurements; groups = a .groups }) rotations
-    ∙ ap (λ (ws : List ℕ). record { steps = b .steps; merges = b .merges; sizes = b .sizes; rotations = b .rotations; promotions = ws; measurements = a .measurements; groups = a .groups }) promotions
-    ∙ ap (λ (ws : List ℕ). record { steps = b .steps; merges = b .merges; sizes = b .sizes; rotations = b .rotations; promotions = b .promotions; measurements = ws; groups = a .groups }) measurements
-    ∙ ap (λ (ws : List ℕ). record { steps = b .steps; merges = b .merges; sizes = b .sizes; rotations = b .rotations; promotions = b .promotions; measurements = b .measurements; groups = ws }) groups
-
 -- buffers of the same lengths hold the same after the same plan
 held-same : (p : Plan) (before after before' after' : Buffers) → lengthsOf before' ≡ lengthsOf before → Held (planned p) before after → Held (planned p) before' after' → after' ≡ after
 held-same p before after before' after' same held held' =
-    each-same after' after
-    (held' .steps ∙ ap (λ (l : Lengths). padded (l .steps) (p .steps)) same ∙ sym (held .steps))
-    (held' .merges ∙ ap (λ (l : Lengths). padded (l .merges) (p .merges)) same ∙ sym (held .merges))
-    (held' .sizes ∙ ap (λ (l : Lengths). padded (l .sizes) (p .sizes)) same ∙ sym (held .sizes))
-    (held' .rotations ∙ ap (λ (l : Lengths). padded (l .rotations) (p .rotations)) same ∙ sym (held .rotations))
-    (held' .promotions ∙ ap (λ (l : Lengths). padded (l .promotions) (p .promotions)) same ∙ sym (held .promotions))
-    (held' .measurements ∙ ap (λ (l : Lengths). padded (l .measurements) (p .measurements)) same ∙ sym (held .measurements))
-    (held' .groups ∙ ap (λ (l : Lengths). padded (l .groups) (p .groups)) same ∙ sym (held .groups))
+    λ j. record {
+      steps = (held' .steps ∙ ap (λ (l : Lengths). padded (l .steps) (p .steps)) same ∙ sym (held .steps)) j;
+      merges = (held' .merges ∙ ap (λ (l : Lengths). padded (l .merges) (p .merges)) same ∙ sym (held .merges)) j;
+      sizes = (held' .sizes ∙ ap (λ (l : Lengths). padded (l .sizes) (p .sizes)) same ∙ sym (held .sizes)) j;
+      rotations = (held' .rotations ∙ ap (λ (l : Lengths). padded (l .rotations) (p .rotations)) same ∙ sym (held .rotations)) j;
+      promotions = (held' .promotions ∙ ap (λ (l : Lengths). padded (l .promotions) (p .promotions)) same ∙ sym (held .promotions)) j;
+      measurements = (held' .measurements ∙ ap (λ (l : Lengths). padded (l .measurements) (p .measurements)) same ∙ sym (held .measurements)) j;
+      groups = (held' .groups ∙ ap (λ (l : Lengths). padded (l .groups) (p .groups)) same ∙ sym (held .groups)) j;
+    }
 
 -- and under every other ceiling that is above max_k and above each size, a call gives the same answer and leaves the same words
 pub call-under : (h : Head) (ws : List ℕ) (before after : Buffers) (r : ActiveComponentPlan) → Answers h ws before after (P.Plan r)

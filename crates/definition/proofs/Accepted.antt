@@ -20,7 +20,6 @@ use Rattle.definition.proofs.Steps.{Run, run-of-walk, cond-no}
 pub record Accepted (h : Head) (ws : List ℕ) (l : Lengths) (p : Plan) : Type 0 where
   pub densePeak : ℕ
   pub last : Walk
-  pub ceiling-given : ceilingRefused h ≡ false
   pub dimension-given : maxDimension h ≡ some densePeak
   pub words : wordsRefused ws ≡ false
   pub buffers : buffersRefused (length ws / 8) l ≡ false
@@ -57,8 +56,7 @@ ceiling-passed h ws l p e = refuse-planned (ceilingRefused h) 24 _ p e
 pub accepted : (h : Head) (ws : List ℕ) (l : Lengths) (p : Plan) → unread h ≡ false → planOf h ws l ≡ planned p → Accepted h ws l p
 unfolding planRead
 accepted h ws l p read e =
-    let first = ceiling-passed h ws l p e in
-    let peak = peak-planned h ws l (maxDimension h) p read (first .1) in
+    let peak = peak-planned h ws l (maxDimension h) p read (ceiling-passed h ws l p e .1) in
     let second = refuse-planned (wordsRefused ws) 2 _ p (peak .2) in
     let third = refuse-planned (buffersRefused (length ws / 8) l) 3 _ p (second .1) in
     let fourth = refuse-planned (ltb 512 (h .«initial_k»)) 4 _ p (third .1) in
@@ -66,7 +64,6 @@ accepted h ws l p read e =
     let walk = walk-planned (h .«initial_k») (peak .0) (walkFrom (h .ceiling) 0 (start (h .«initial_k»)) (instructionsOf ws)) p (pass .1) in record {
       densePeak = peak .0;
       last = walk .0;
-      ceiling-given = first .0;
       dimension-given = peak .1;
       words = second .0;
       buffers = third .0;

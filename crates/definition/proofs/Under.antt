@@ -33,7 +33,7 @@ use Rattle.definition.proofs.Connected.{longest-is, read-head}
 use Rattle.definition.proofs.Padded.{Pads, zeroed-at, after-same, joined-same, accepted-names}
 
 -- below the ceiling the dimension is the power of two, whatever the ceiling is
-pub dimension-at : (ceiling size : ℕ) → size < ceiling → size < 64 → dimension ceiling size ≡ some (2 ^ size)
+dimension-at : (ceiling size : ℕ) → size < ceiling → size < 64 → dimension ceiling size ≡ some (2 ^ size)
 unfolding dimension
 dimension-at ceiling size below small = cond-yes (ltb size (min ceiling 64)) _ _ (lt-ltb size (min ceiling 64) (omega arith))
 
@@ -123,7 +123,7 @@ module _ (ceiling other : ℕ) where
       let e = next c in
       let f = run-longer (activeStep r i) rest (step-tracked r s t) (long-after w v (joinedComponents s) next) c in omega arith
 
-  pub walk-same : (index : ℕ) (w u : Walk) (is : List Instruction) (r : ActiveOrder) → Tracked w r → Long w → walkFrom ceiling index w is ≡ finished u
+  walk-same : (index : ℕ) (w u : Walk) (is : List Instruction) (r : ActiveOrder) → Tracked w r → Long w → walkFrom ceiling index w is ≡ finished u
       → ((c : ℕ) → getD (u .longest) c 0 < other) → walkFrom other index w is ≡ finished u
   unfolding walkFrom
   walk-same index w u [] r t long e all = e
