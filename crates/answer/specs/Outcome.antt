@@ -1,8 +1,8 @@
 -- What an answer says, the code's and the definition's: the values of a plan's fields, or the refusal.
 use Rattle.std.specs.Prelude.{ℕ, length, Bool, Float}
 use Rattle.definition.specs.WholeWorks.{WholeWorks}
-use Rattle.definition.specs.Plan.{Plan, Result, planned, refusedAt}
-use Rattle.tally.specs.Tally.{worksOf}
+use Rattle.definition.specs.Plan.{Plan, Result, planned, refused_at}
+use Rattle.tally.specs.Tally.{works_of}
 use Rattle.outputs.specs.declared.WordCounts.{WordCounts}
 use Rattle.answer.specs.declared.Planned.{Planned}
 use Rattle.answer.specs.declared.Planned.TheVariants as P
@@ -10,19 +10,19 @@ use Rattle.answer.specs.declared.Planned.TheVariants as P
 -- "The result's eight scalar fields, in order", 02's whole works (CR 1) and how many words of the first six outputs are used (CR 2), or "its number and record
 -- index"
 pub data Outcome : Type 0 where
-  accepted : (selected : Bool) (initialComponents componentCount : ℕ) (denseWork componentWork : Float) (densePeak peak allocated : ℕ) (whole : WholeWorks) (used : WordCounts) → Outcome
-  turnedAway : (number index : ℕ) → Outcome
+  accepted : (selected : Bool) (initial_components component_count : ℕ) (dense_work component_work : Float) (dense_peak peak allocated : ℕ) (whole : WholeWorks) (used : WordCounts) → Outcome
+  turned_away : (number index : ℕ) → Outcome
 
 -- of the code's answer
-abbrev pub outcomeOf : Planned → Outcome
-outcomeOf (P.Plan p) =
+abbrev pub outcome_of : Planned → Outcome
+outcome_of (P.Plan p) =
     accepted p.selected p.initial_components p.component_count p.estimated_dense_work p.estimated_component_work
-    p.dense_peak_dimension p.component_peak_live_dimension p.component_allocated_dimension (worksOf p.whole_works) p.used
-outcomeOf (P.Refused number index) = turnedAway number index
+    p.dense_peak_dimension p.component_peak_live_dimension p.component_allocated_dimension (works_of p.whole_works) p.used
+outcome_of (P.Refused number index) = turned_away number index
 
 -- how many words of the first six outputs a plan uses
-abbrev pub usedIn : Plan → WordCounts
-usedIn p = record {
+abbrev pub used_in : Plan → WordCounts
+used_in p = record {
   steps = length p.steps;
   merges = length p.merges;
   sizes = length p.sizes;
@@ -32,7 +32,7 @@ usedIn p = record {
 }
 
 -- of the definition's result
-abbrev pub outcomeIn : Result → Outcome
-outcomeIn (planned p) =
-    accepted p.selected p.initialComponents p.componentCount p.denseWork p.componentWork p.densePeak p.peak p.allocated p.wholeWorks (usedIn p)
-outcomeIn (refusedAt number index) = turnedAway number index
+abbrev pub outcome_in : Result → Outcome
+outcome_in (planned p) =
+    accepted p.selected p.initial_components p.component_count p.dense_work p.component_work p.dense_peak p.peak p.allocated p.whole_works (used_in p)
+outcome_in (refused_at number index) = turned_away number index

@@ -2,10 +2,10 @@
 // a plan comes about, from a finished walk and with no record read.
 ghost use Rattle.std.specs.Prelude.{◌≡◌, false, pos, ◌*◌};
 ghost use Rattle.std.specs.Float.{fin};
-ghost use Rattle.definition.specs.WholeWorks.{wholeWorksOf};
+ghost use Rattle.definition.specs.WholeWorks.{whole_works_of};
 ghost use Rattle.definition.specs.Plan.{chosen};
 ghost use Rattle.lent.specs.Lent.{UsedFit};
-ghost use Rattle.answer.specs.Outcome.{accepted, outcomeOf};
+ghost use Rattle.answer.specs.Outcome.{accepted, outcome_of};
 
 use lent::choose;
 use outputs::WordCounts;
@@ -79,9 +79,9 @@ pub fn plan_of(
     allocated: u64,
 ) -> ActiveComponentPlan
     requires { UsedFit done n }
-    ensures { outcomeOf (Planned.Plan result)
+    ensures { outcome_of (Planned.Plan result)
         ≡ accepted (chosen done.tally.quantum done.tally.dense done.tally.work allocated dense_peak) initial_k done.count done.tally.dense done.tally.work dense_peak done.tally.peak allocated
-        (wholeWorksOf (record { dense = done.tally.whole_dense; component = done.tally.whole_work; widest = done.tally.widest }))
+        (whole_works_of (record { dense = done.tally.whole_dense; component = done.tally.whole_work; widest = done.tally.widest }))
         (record { steps = 2 * n; merges = done.tally.merges; sizes = done.count; rotations = 21 * done.tally.rotations; promotions = done.tally.promotions; measurements = 19 * done.tally.measurements }) }
 {
     let tally = done.tally;

@@ -6,43 +6,43 @@ use mathlib.Core.Path.{◌≡◌, refl, sym, ap, ◌∙◌, subst, subst₂}
 use mathlib.Core.List.{List}
 use lib.ListN.{length}
 use lib.Ieee.{Float}
-use Rattle.records.specs.Record.{instructionsOf}
+use Rattle.records.specs.Record.{instructions_of}
 use Rattle.records.specs.declared.Head.{Head}
 use Rattle.definition.specs.WholeWorks.{WholeWorks}
-use Rattle.definition.specs.Plan.{Lengths, Plan, Result, planned, refusedAt, plan_of, padded}
+use Rattle.definition.specs.Plan.{Lengths, Plan, Result, planned, refused_at, plan_of, padded}
 use Rattle.definition.specs.Connectivity.{Connected}
 use Rattle.definition.specs.Sources.{SourcesListed}
 use Rattle.definition.specs.Laws.{Agree, TooWideExactly, HasDimensions, under, HoldsPlan}
 use Rattle.definition.proofs.Accepted.{accepted}
 use Rattle.definition.proofs.Connected.{read_head, connected}
-use Rattle.definition.proofs.Padded.{Pads, zeroed-at, connected-padded}
-use Rattle.definition.proofs.Listed.{listed-padded}
-use Rattle.definition.proofs.WholeWorks.{works-agree, too-wide-exactly}
-use Rattle.definition.proofs.Under.{plan-dimensions, dimensions-padded, same-plan}
-use Rattle.tally.specs.Tally.{worksOf}
+use Rattle.definition.proofs.Padded.{Pads, zeroed_at, connected_padded}
+use Rattle.definition.proofs.Listed.{listed_padded}
+use Rattle.definition.proofs.WholeWorks.{works_agree, too_wide_exactly}
+use Rattle.definition.proofs.Under.{plan_dimensions, dimensions_padded, same_plan}
+use Rattle.tally.specs.Tally.{works_of}
 use Rattle.outputs.specs.declared.WordCounts.{WordCounts}
-use Rattle.walk.specs.Walking.{Buffers, lengthsOf}
+use Rattle.walk.specs.Walking.{Buffers, lengths_of}
 use Rattle.answer.specs.declared.ActiveComponentPlan.{ActiveComponentPlan}
 use Rattle.answer.specs.declared.Planned.{Planned}
 use Rattle.answer.specs.declared.Planned.TheVariants as P
 use Rattle.lent.specs.Lent.{Held}
-use Rattle.answer.specs.Outcome.{usedIn, outcomeOf, outcomeIn}
+use Rattle.answer.specs.Outcome.{used_in, outcome_of, outcome_in}
 use Rattle.component_plan.specs.Answer.{Answers}
-use Rattle.component_plan.specs.Demand.{planIn}
+use Rattle.component_plan.specs.Demand.{plan_in}
 
 -- an answer that is a plan is the definition's plan: its fields, and its words followed by zeros
-pub planned-pads : (result : Result) (before after : Buffers) (r : ActiveComponentPlan) → outcomeOf (P.Plan r) ≡ outcomeIn result → Held result before after
-    → (p : Plan) × (result ≡ planned p) × Pads p (planIn r after)
-planned-pads (planned p) before after r e held =
-    let initial : r.initial_components ≡ p.initialComponents = cc in
-    let count : r.component_count ≡ p.componentCount = cc in
+pub planned_pads : (result : Result) (before after : Buffers) (r : ActiveComponentPlan) → outcome_of (P.Plan r) ≡ outcome_in result → Held result before after
+    → (p : Plan) × (result ≡ planned p) × Pads p (plan_in r after)
+planned_pads (planned p) before after r e held =
+    let initial : r.initial_components ≡ p.initial_components = cc in
+    let count : r.component_count ≡ p.component_count = cc in
     let peak : r.component_peak_live_dimension ≡ p.peak = cc in
     let allocated : r.component_allocated_dimension ≡ p.allocated = cc in (
       p,
       refl,
       record {
-        initialComponents = initial;
-        componentCount = count;
+        initial_components = initial;
+        component_count = count;
         peak = peak;
         allocated = allocated;
         steps = (length before.steps, held.steps);
@@ -53,73 +53,73 @@ planned-pads (planned p) before after r e held =
         measurements = (length before.measurements, held.measurements);
       },
     )
-planned-pads (refusedAt number index) before after r e held = let z : ◌≡◌ {A = ℕ} 0 1 = cc in absurd (omega arith)
+planned_pads (refused_at number index) before after r e held = let z : ◌≡◌ {A = ℕ} 0 1 = cc in absurd (omega arith)
 
 -- Demand 3 of the answer and the buffers that a call leaves
-pub call-connected : (h : Head) (ws : List ℕ) (before after : Buffers) (r : ActiveComponentPlan)
+pub call_connected : (h : Head) (ws : List ℕ) (before after : Buffers) (r : ActiveComponentPlan)
     → Answers h ws before after (P.Plan r) → 8 ≤ h.max_k → h.nexpvals ≡ 0
-    → (m : ℕ) → m ≤ length (instructionsOf ws) → Connected h.initial_k (instructionsOf ws) (planIn r after) m
-call-connected h ws before after r a wide none m within =
-    let found = planned-pads (plan_of h ws (lengthsOf before)) before after r a.answer a.held in
+    → (m : ℕ) → m ≤ length (instructions_of ws) → Connected h.initial_k (instructions_of ws) (plan_in r after) m
+call_connected h ws before after r a wide none m within =
+    let found = planned_pads (plan_of h ws (lengths_of before)) before after r a.answer a.held in
     let p = found.0 in
-    let plan = accepted h ws (lengthsOf before) p (read_head h wide none) found.1 in
-    connected-padded h ws (lengthsOf before) p (planIn r after) plan found.2 m within
-    (connected h ws (lengthsOf before) p found.1 wide none m within)
+    let plan = accepted h ws (lengths_of before) p (read_head h wide none) found.1 in
+    connected_padded h ws (lengths_of before) p (plan_in r after) plan found.2 m within
+    (connected h ws (lengths_of before) p found.1 wide none m within)
 
 -- an answer that is a plan counts the definition's words
-planned-used : (result : Result) (r : ActiveComponentPlan) → outcomeOf (P.Plan r) ≡ outcomeIn result → (p : Plan) → result ≡ planned p → usedIn p ≡ r.used
-planned-used result r e p same = let given : outcomeOf (P.Plan r) ≡ outcomeIn (planned p) = e ∙ ap outcomeIn same in cc
+planned_used : (result : Result) (r : ActiveComponentPlan) → outcome_of (P.Plan r) ≡ outcome_in result → (p : Plan) → result ≡ planned p → used_in p ≡ r.used
+planned_used result r e p same = let given : outcome_of (P.Plan r) ≡ outcome_in (planned p) = e ∙ ap outcome_in same in cc
 
 -- 02, CR 3, of the answer and the buffers that a call leaves: each row's part of the merge list, by the numbers of used words
-pub call-sources : (h : Head) (ws : List ℕ) (before after : Buffers) (r : ActiveComponentPlan)
+pub call_sources : (h : Head) (ws : List ℕ) (before after : Buffers) (r : ActiveComponentPlan)
     → Answers h ws before after (P.Plan r) → 8 ≤ h.max_k → h.nexpvals ≡ 0
-    → SourcesListed h.initial_k (instructionsOf ws) (planIn r after) (r.used.rotations / 21) (r.used.measurements / 19)
-call-sources h ws before after r a wide none =
-    let result = plan_of h ws (lengthsOf before) in
-    let found = planned-pads result before after r a.answer a.held in
+    → SourcesListed h.initial_k (instructions_of ws) (plan_in r after) (r.used.rotations / 21) (r.used.measurements / 19)
+call_sources h ws before after r a wide none =
+    let result = plan_of h ws (lengths_of before) in
+    let found = planned_pads result before after r a.answer a.held in
     let p = found.0 in
-    let used = planned-used result r a.answer p found.1 in
-    subst (λ (n : WordCounts). SourcesListed h.initial_k (instructionsOf ws) (planIn r after) (n.rotations / 21) (n.measurements / 19)) used
-    (listed-padded h ws (lengthsOf before) p (planIn r after) (accepted h ws (lengthsOf before) p (read_head h wide none) found.1) found.2)
+    let used = planned_used result r a.answer p found.1 in
+    subst (λ (n : WordCounts). SourcesListed h.initial_k (instructions_of ws) (plan_in r after) (n.rotations / 21) (n.measurements / 19)) used
+    (listed_padded h ws (lengths_of before) p (plan_in r after) (accepted h ws (lengths_of before) p (read_head h wide none) found.1) found.2)
 
 -- an answer that is a plan has the definition's works
-planned-works : (result : Result) (r : ActiveComponentPlan) → outcomeOf (P.Plan r) ≡ outcomeIn result
-    → (p : Plan) × (result ≡ planned p) × (p.wholeWorks ≡ worksOf r.whole_works) × (p.denseWork ≡ r.estimated_dense_work)
-    × (p.componentWork ≡ r.estimated_component_work)
-planned-works (planned p) r e =
-    let whole : p.wholeWorks ≡ worksOf r.whole_works = cc in
-    let dense : p.denseWork ≡ r.estimated_dense_work = cc in
-    let component : p.componentWork ≡ r.estimated_component_work = cc in (p, refl, whole, dense, component)
-planned-works (refusedAt number index) r e = let z : ◌≡◌ {A = ℕ} 0 1 = cc in absurd (omega arith)
+planned_works : (result : Result) (r : ActiveComponentPlan) → outcome_of (P.Plan r) ≡ outcome_in result
+    → (p : Plan) × (result ≡ planned p) × (p.whole_works ≡ works_of r.whole_works) × (p.dense_work ≡ r.estimated_dense_work)
+    × (p.component_work ≡ r.estimated_component_work)
+planned_works (planned p) r e =
+    let whole : p.whole_works ≡ works_of r.whole_works = cc in
+    let dense : p.dense_work ≡ r.estimated_dense_work = cc in
+    let component : p.component_work ≡ r.estimated_component_work = cc in (p, refl, whole, dense, component)
+planned_works (refused_at number index) r e = let z : ◌≡◌ {A = ℕ} 0 1 = cc in absurd (omega arith)
 
 -- wherever a call gives whole works, its float works are these numbers
-pub call-works-agree : (h : Head) (ws : List ℕ) (before after : Buffers) (r : ActiveComponentPlan) → Answers h ws before after (P.Plan r)
-    → Agree (worksOf r.whole_works) r.estimated_dense_work r.estimated_component_work
-call-works-agree h ws before after r a =
-    let found = planned-works (plan_of h ws (lengthsOf before)) r a.answer in
+pub call_works_agree : (h : Head) (ws : List ℕ) (before after : Buffers) (r : ActiveComponentPlan) → Answers h ws before after (P.Plan r)
+    → Agree (works_of r.whole_works) r.estimated_dense_work r.estimated_component_work
+call_works_agree h ws before after r a =
+    let found = planned_works (plan_of h ws (lengths_of before)) r a.answer in
     let p = found.0 in
     subst (λ (x : WholeWorks). Agree x r.estimated_dense_work r.estimated_component_work) found.2
-    (subst₂ (λ (d c : Float). Agree p.wholeWorks d c) found.3 found.4 (works-agree h ws (lengthsOf before) p found.1))
+    (subst₂ (λ (d c : Float). Agree p.whole_works d c) found.3 found.4 (works_agree h ws (lengths_of before) p found.1))
 
 -- and it says too wide exactly where the roll's width passes 38
-pub call-too-wide : (h : Head) (ws : List ℕ) (before after : Buffers) (r : ActiveComponentPlan) → Answers h ws before after (P.Plan r)
-    → 8 ≤ h.max_k → h.nexpvals ≡ 0 → TooWideExactly h.initial_k (instructionsOf ws) (worksOf r.whole_works)
-call-too-wide h ws before after r a wide none =
-    let found = planned-works (plan_of h ws (lengthsOf before)) r a.answer in
-    subst (λ (x : WholeWorks). TooWideExactly h.initial_k (instructionsOf ws) x) found.2
-    (too-wide-exactly h ws (lengthsOf before) found.0 (read_head h wide none) found.1)
+pub call_too_wide : (h : Head) (ws : List ℕ) (before after : Buffers) (r : ActiveComponentPlan) → Answers h ws before after (P.Plan r)
+    → 8 ≤ h.max_k → h.nexpvals ≡ 0 → TooWideExactly h.initial_k (instructions_of ws) (works_of r.whole_works)
+call_too_wide h ws before after r a wide none =
+    let found = planned_works (plan_of h ws (lengths_of before)) r a.answer in
+    subst (λ (x : WholeWorks). TooWideExactly h.initial_k (instructions_of ws) x) found.2
+    (too_wide_exactly h ws (lengths_of before) found.0 (read_head h wide none) found.1)
 
 -- 02, CR 4, of the answer and the buffers that a call leaves: every dimension that is asked for is there
-pub call-dimensions : (h : Head) (ws : List ℕ) (before after : Buffers) (r : ActiveComponentPlan) → Answers h ws before after (P.Plan r)
-    → 8 ≤ h.max_k → h.nexpvals ≡ 0 → HasDimensions h.ceiling (length (instructionsOf ws)) (planIn r after)
-call-dimensions h ws before after r a wide none =
-    let found = planned-pads (plan_of h ws (lengthsOf before)) before after r a.answer a.held in
+pub call_dimensions : (h : Head) (ws : List ℕ) (before after : Buffers) (r : ActiveComponentPlan) → Answers h ws before after (P.Plan r)
+    → 8 ≤ h.max_k → h.nexpvals ≡ 0 → HasDimensions h.ceiling (length (instructions_of ws)) (plan_in r after)
+call_dimensions h ws before after r a wide none =
+    let found = planned_pads (plan_of h ws (lengths_of before)) before after r a.answer a.held in
     let p = found.0 in
-    dimensions-padded h ws (lengthsOf before) p (planIn r after) (accepted h ws (lengthsOf before) p (read_head h wide none) found.1) found.2
-    (plan-dimensions h ws (lengthsOf before) p found.1 wide none)
+    dimensions_padded h ws (lengths_of before) p (plan_in r after) (accepted h ws (lengths_of before) p (read_head h wide none) found.1) found.2
+    (plan_dimensions h ws (lengths_of before) p found.1 wide none)
 
 -- buffers of the same lengths hold the same after the same plan
-held_same : (p : Plan) (before after before' after' : Buffers) → lengthsOf before' ≡ lengthsOf before → Held (planned p) before after → Held (planned p) before' after' → after' ≡ after
+held_same : (p : Plan) (before after before' after' : Buffers) → lengths_of before' ≡ lengths_of before → Held (planned p) before after → Held (planned p) before' after' → after' ≡ after
 held_same p before after before' after' same held held' =
     λ j. record {
       steps = (held'.steps ∙ ap (λ (l : Lengths). padded l.steps p.steps) same ∙ sym held.steps) j;
@@ -132,20 +132,20 @@ held_same p before after before' after' same held held' =
     }
 
 -- and under every other ceiling that is above max_k and above each size, a call gives the same answer and leaves the same words
-pub call-under : (h : Head) (ws : List ℕ) (before after : Buffers) (r : ActiveComponentPlan) → Answers h ws before after (P.Plan r)
-    → (ceiling : ℕ) → HoldsPlan ceiling h (planIn r after)
-    → (before' after' : Buffers) (r' : Planned) → lengthsOf before' ≡ lengthsOf before → Answers (under ceiling h) ws before' after' r'
-    → (outcomeOf r' ≡ outcomeOf (P.Plan r)) × (after' ≡ after)
-call-under h ws before after r a ceiling holds before' after' r' same a' =
-    let found = planned-pads (plan_of h ws (lengthsOf before)) before after r a.answer a.held in
+pub call_under : (h : Head) (ws : List ℕ) (before after : Buffers) (r : ActiveComponentPlan) → Answers h ws before after (P.Plan r)
+    → (ceiling : ℕ) → HoldsPlan ceiling h (plan_in r after)
+    → (before' after' : Buffers) (r' : Planned) → lengths_of before' ≡ lengths_of before → Answers (under ceiling h) ws before' after' r'
+    → (outcome_of r' ≡ outcome_of (P.Plan r)) × (after' ≡ after)
+call_under h ws before after r a ceiling holds before' after' r' same a' =
+    let found = planned_pads (plan_of h ws (lengths_of before)) before after r a.answer a.held in
     let p = found.0 in
-    let there = same-plan h ws (lengthsOf before) p found.1 ceiling (record {
+    let there = same_plan h ws (lengths_of before) p found.1 ceiling (record {
       least = holds.least;
       most = holds.most;
-      max-below = holds.max-below;
-      sizes-below = λ c. subst (λ (n : ℕ). n < ceiling) (zeroed-at p.sizes after.sizes c found.2.sizes) (holds.sizes-below c);
+      max_below = holds.max_below;
+      sizes_below = λ c. subst (λ (n : ℕ). n < ceiling) (zeroed_at p.sizes after.sizes c found.2.sizes) (holds.sizes_below c);
     }) in
-    let other : plan_of (under ceiling h) ws (lengthsOf before') ≡ planned p = ap (plan_of (under ceiling h) ws) same ∙ there in (
-      a'.answer ∙ ap outcomeIn (other ∙ sym found.1) ∙ sym a.answer,
+    let other : plan_of (under ceiling h) ws (lengths_of before') ≡ planned p = ap (plan_of (under ceiling h) ws) same ∙ there in (
+      a'.answer ∙ ap outcome_in (other ∙ sym found.1) ∙ sym a.answer,
       held_same p before after before' after' same (subst (λ (x : Result). Held x before after) found.1 a.held) (subst (λ (x : Result). Held x before' after') other a'.held),
     )

@@ -10,26 +10,26 @@ use lib.Dec.{ltb}
 use lib.ListN.{length, take, replicate, length-take}
 use borrow.Author.Tests.{ltb-false}
 use lib.Seq.{take-append-le, take-length}
-use Rattle.records.specs.Record.{instructionsOf}
-use Rattle.records.proofs.Laws.{instructions-length}
+use Rattle.records.specs.Record.{instructions_of}
+use Rattle.records.proofs.Laws.{instructions_length}
 use Rattle.definition.specs.Lists.{concat}
-use Rattle.definition.specs.WholeWorks.{WholeSums, tooWide, quotient_of, wholeWorksOf}
+use Rattle.definition.specs.WholeWorks.{WholeSums, too_wide, quotient_of, whole_works_of}
 use Rattle.definition.specs.Walk.{Walk, start}
-use Rattle.definition.specs.Plan.{planned, planFrom, padded, groups_of}
+use Rattle.definition.specs.Plan.{planned, plan_from, padded, groups_of}
 use Rattle.definition.proofs.Steps.{Run}
-use Rattle.definition.proofs.Growth.{run-rotations, run-measurements, start-wide, length-concat}
-use Rattle.definition.proofs.WholeWorks.{reached-exactly}
-use Rattle.definition.proofs.Room.{longest-count, steps-count, rows-most}
+use Rattle.definition.proofs.Growth.{run_rotations, run_measurements, start_wide, length_concat}
+use Rattle.definition.proofs.WholeWorks.{reached_exactly}
+use Rattle.definition.proofs.Room.{longest_count, steps_count, rows_most}
 use Rattle.walk.specs.declared.Summary.{Summary}
 use Rattle.walk.specs.Walking.{Buffers, Begins, Ended, SameLengths}
-use Rattle.lent.specs.Lent.{Held, RestCleared, UsedFit, clearedFrom}
+use Rattle.lent.specs.Lent.{Held, RestCleared, UsedFit, cleared_from}
 use Rattle.outputs.specs.declared.WordCounts.{WordCounts}
-use Rattle.answer.specs.Outcome.{usedIn}
+use Rattle.answer.specs.Outcome.{used_in}
 
 -- one buffer of m words: ws stand in front, n of them, and what follows is zeroed
-pub cleared-is-padded : (m n : ℕ) (ws walked after : List ℕ) → length walked ≡ m → n ≡ length ws → Begins ws walked → after ≡ clearedFrom n walked
+pub cleared_is_padded : (m n : ℕ) (ws walked after : List ℕ) → length walked ≡ m → n ≡ length ws → Begins ws walked → after ≡ cleared_from n walked
     → after ≡ padded m ws
-cleared-is-padded m n ws walked after same count front cleared =
+cleared_is_padded m n ws walked after same count front cleared =
     cleared
     ∙ ap (λ (k : ℕ). take k walked ++ replicate (length walked - k) 0) count
     ∙ ap (λ (l : List ℕ). l ++ replicate (length walked - length ws) 0) front
@@ -40,42 +40,42 @@ pub front_fits : (ws xs : List ℕ) → Begins ws xs → length ws ≤ length xs
 front_fits ws xs front = let e = sym (length-take (length ws) xs) ∙ ap length front in omega arith
 
 -- n words of a buffer that holds n and zeros
-pub front-of-padded : (m n : ℕ) (ws after : List ℕ) → n ≡ length ws → after ≡ padded m ws → take n after ≡ ws
-front-of-padded m n ws after count e =
+pub front_of_padded : (m n : ℕ) (ws after : List ℕ) → n ≡ length ws → after ≡ padded m ws → take n after ≡ ws
+front_of_padded m n ws after count e =
     ap (λ (k : ℕ). take k after) count
     ∙ ap (λ (l : List ℕ). take (length ws) l) e
     ∙ take-append-le (length ws) ws (replicate (m - length ws) 0) (omega arith)
     ∙ take-length ws
 
 -- sums that are kept modulo 2 ^ 64 say the same of the works where a narrow program's sums are below that
-whole-kept : (s : WholeSums) (dense component widest : ℕ) → dense ≡ s.dense % 2 ^ 64 → component ≡ s.component % 2 ^ 64 → widest ≡ s.widest
+whole_kept : (s : WholeSums) (dense component widest : ℕ) → dense ≡ s.dense % 2 ^ 64 → component ≡ s.component % 2 ^ 64 → widest ≡ s.widest
     → (s.widest ≤ 38 → (s.dense < 2 ^ 64) × (s.component < 2 ^ 64))
-    → wholeWorksOf (record { dense = dense; component = component; widest = widest }) ≡ wholeWorksOf s
-unfolding wholeWorksOf
-whole-kept s dense component widest d c w small =
-    ap (λ (n : ℕ). cond (ltb 38 n) tooWide (quotient_of dense component)) w ∙ by_width (ltb 38 s.widest) refl
+    → whole_works_of (record { dense = dense; component = component; widest = widest }) ≡ whole_works_of s
+unfolding whole_works_of
+whole_kept s dense component widest d c w small =
+    ap (λ (n : ℕ). cond (ltb 38 n) too_wide (quotient_of dense component)) w ∙ by_width (ltb 38 s.widest) refl
   where
-    by_width : (t : Bool) → ltb 38 s.widest ≡ t → cond t tooWide (quotient_of dense component) ≡ cond t tooWide (quotient_of s.dense s.component)
+    by_width : (t : Bool) → ltb 38 s.widest ≡ t → cond t too_wide (quotient_of dense component) ≡ cond t too_wide (quotient_of s.dense s.component)
     by_width true e = refl
     by_width false e =
         let below = small (ltb-false 38 s.widest e) in
         ap₂ quotient_of (d ∙ mod-eq_of_lt below.0) (c ∙ mod-eq_of_lt below.1)
 
-module _ {limit : ℕ} (k : ℕ) (ws : List ℕ) (w : Walk) (run : Run limit (start k) (instructionsOf ws) w) (s : Summary) (walked : Buffers) (ended : Ended w s walked) where
-  rotation-words : 21 * s.tally.rotations ≡ length (concat w.written.rotations)
-  rotation-words = ap (λ (n : ℕ). 21 * n) ended.sums.rotations ∙ sym (length-concat 21 w.written.rotations (run-rotations run (start-wide k 21).0))
+module _ {limit : ℕ} (k : ℕ) (ws : List ℕ) (w : Walk) (run : Run limit (start k) (instructions_of ws) w) (s : Summary) (walked : Buffers) (ended : Ended w s walked) where
+  rotation_words : 21 * s.tally.rotations ≡ length (concat w.written.rotations)
+  rotation_words = ap (λ (n : ℕ). 21 * n) ended.sums.rotations ∙ sym (length_concat 21 w.written.rotations (run_rotations run (start_wide k 21).0))
 
-  measurement-words : 19 * s.tally.measurements ≡ length (concat w.written.measurements)
-  measurement-words = ap (λ (n : ℕ). 19 * n) ended.sums.measurements ∙ sym (length-concat 19 w.written.measurements (run-measurements run (start-wide k 19).1))
+  measurement_words : 19 * s.tally.measurements ≡ length (concat w.written.measurements)
+  measurement_words = ap (λ (n : ℕ). 19 * n) ended.sums.measurements ∙ sym (length_concat 19 w.written.measurements (run_measurements run (start_wide k 19).1))
 
   step_words : 2 * (length ws / 8) ≡ length w.written.steps
-  step_words = ap (λ (n : ℕ). 2 * n) (sym (instructions-length ws)) ∙ sym (steps-count k run)
+  step_words = ap (λ (n : ℕ). 2 * n) (sym (instructions_length ws)) ∙ sym (steps_count k run)
 
   -- the used words can be counted
-  pub used-fit : length ws ≤ 8192 → UsedFit s (length ws / 8)
-  used-fit few =
-      let l = instructions-length ws in
-      let rows = rows-most k run in record {
+  pub used_fit : length ws ≤ 8192 → UsedFit s (length ws / 8)
+  used_fit few =
+      let l = instructions_length ws in
+      let rows = rows_most k run in record {
         steps = omega arith;
         rotations = omega (arith, ended.sums.rotations);
         measurements = omega (arith, ended.sums.measurements);
@@ -83,18 +83,18 @@ module _ {limit : ℕ} (k : ℕ) (ws : List ℕ) (w : Walk) (run : Run limit (st
 
   -- the whole works are the definition's
   pub whole_same : length ws ≤ 8192
-      → wholeWorksOf (record { dense = s.tally.whole_dense; component = s.tally.whole_work; widest = s.tally.widest }) ≡ wholeWorksOf w.whole
+      → whole_works_of (record { dense = s.tally.whole_dense; component = s.tally.whole_work; widest = s.tally.widest }) ≡ whole_works_of w.whole
   whole_same few =
-      whole-kept w.whole s.tally.whole_dense s.tally.whole_work s.tally.widest ended.sums.whole-dense ended.sums.whole-work ended.sums.widest
-      (λ narrow. let l = instructions-length ws in
-      let e = reached-exactly k run (omega arith) narrow in (omega (arith, e.dense-most), omega (arith, e.component-most)))
+      whole_kept w.whole s.tally.whole_dense s.tally.whole_work s.tally.widest ended.sums.whole_dense ended.sums.whole_work ended.sums.widest
+      (λ narrow. let l = instructions_length ws in
+      let e = reached_exactly k run (omega arith) narrow in (omega (arith, e.dense_most), omega (arith, e.component_most)))
 
   -- as many sizes as components
-  pub size-words : s.count ≡ length w.longest
-  size-words = ended.count ∙ sym (longest-count k run)
+  pub size_words : s.count ≡ length w.longest
+  size_words = ended.count ∙ sym (longest_count k run)
 
   -- the used words are counted
-  pub used-same : (densePeak : ℕ)
+  pub used_same : (dense_peak : ℕ)
       → ◌≡◌ {A = WordCounts} (record {
         steps = 2 * (length ws / 8);
         merges = s.tally.merges;
@@ -102,27 +102,27 @@ module _ {limit : ℕ} (k : ℕ) (ws : List ℕ) (w : Walk) (run : Run limit (st
         rotations = 21 * s.tally.rotations;
         promotions = s.tally.promotions;
         measurements = 19 * s.tally.measurements;
-      }) (usedIn (planFrom k densePeak w))
-  unfolding planFrom
-  used-same densePeak i = record {
+      }) (used_in (plan_from k dense_peak w))
+  unfolding plan_from
+  used_same dense_peak i = record {
     steps = step_words i;
     merges = ended.sums.merges i;
-    sizes = size-words i;
-    rotations = rotation-words i;
+    sizes = size_words i;
+    rotations = rotation_words i;
     promotions = ended.sums.promotions i;
-    measurements = measurement-words i;
+    measurements = measurement_words i;
   }
 
   -- all seven
-  pub walk-held : (densePeak : ℕ) (before after : Buffers) → SameLengths before walked → RestCleared s (length ws / 8) walked after
-      → Held (planned (planFrom k densePeak w)) before after
-  unfolding planFrom
-  walk-held densePeak before after same cleared = record {
-    steps = cleared-is-padded _ _ w.written.steps walked.steps _ same.steps step_words ended.steps cleared.steps;
-    merges = cleared-is-padded _ _ w.written.merges walked.merges _ same.merges ended.sums.merges ended.merges cleared.merges;
-    sizes = cleared-is-padded _ _ w.longest walked.sizes _ same.sizes size-words ended.sizes cleared.sizes;
-    rotations = cleared-is-padded _ _ (concat w.written.rotations) walked.rotations _ same.rotations rotation-words ended.rotations cleared.rotations;
-    promotions = cleared-is-padded _ _ w.written.promotions walked.promotions _ same.promotions ended.sums.promotions ended.promotions cleared.promotions;
-    measurements = cleared-is-padded _ _ (concat w.written.measurements) walked.measurements _ same.measurements measurement-words ended.measurements cleared.measurements;
-    groups = cleared-is-padded _ _ (groups_of w.components) walked.groups _ same.groups ended.used ended.groups cleared.groups;
+  pub walk_held : (dense_peak : ℕ) (before after : Buffers) → SameLengths before walked → RestCleared s (length ws / 8) walked after
+      → Held (planned (plan_from k dense_peak w)) before after
+  unfolding plan_from
+  walk_held dense_peak before after same cleared = record {
+    steps = cleared_is_padded _ _ w.written.steps walked.steps _ same.steps step_words ended.steps cleared.steps;
+    merges = cleared_is_padded _ _ w.written.merges walked.merges _ same.merges ended.sums.merges ended.merges cleared.merges;
+    sizes = cleared_is_padded _ _ w.longest walked.sizes _ same.sizes size_words ended.sizes cleared.sizes;
+    rotations = cleared_is_padded _ _ (concat w.written.rotations) walked.rotations _ same.rotations rotation_words ended.rotations cleared.rotations;
+    promotions = cleared_is_padded _ _ w.written.promotions walked.promotions _ same.promotions ended.sums.promotions ended.promotions cleared.promotions;
+    measurements = cleared_is_padded _ _ (concat w.written.measurements) walked.measurements _ same.measurements measurement_words ended.measurements cleared.measurements;
+    groups = cleared_is_padded _ _ (groups_of w.components) walked.groups _ same.groups ended.used ended.groups cleared.groups;
   }

@@ -4,72 +4,72 @@ use mathlib.Core.Path.{◌≡◌, refl}
 use mathlib.Core.List.{List, [], ◌∷◌, ◌++◌, map}
 use Prim.Native.Nat.{ℕ, ◌+◌, ◌-◌, ◌/◌, ◌^◌}
 use lib.ListN.{length}
-use Rattle.definition.specs.Plan.{Result, planned, refusedAt, plan_of}
+use Rattle.definition.specs.Plan.{Result, planned, refused_at, plan_of}
 use Rattle.definition.specs.Circuits.{enough}
 
 -- an answer, for a reader: a refusal's number and index, or the dense peak and the longest sizes
 pub data Told : Type 0 where
   refusal : (number index : ℕ) → Told
-  plan : (densePeak : ℕ) → (sizes : List ℕ) → Told
+  plan : (dense_peak : ℕ) → (sizes : List ℕ) → Told
 
 abbrev told : Result → Told
-told (planned p) = plan p.densePeak p.sizes
-told (refusedAt number index) = refusal number index
+told (planned p) = plan p.dense_peak p.sizes
+told (refused_at number index) = refusal number index
 
 pub record Case : Type 0 where
   pub ceiling : ℕ
-  pub max-k : ℕ
+  pub max_k : ℕ
   pub answer : Told
 
 -- ---- heads
 
 -- no records, and buffers that are long enough for none
 abbrev bare : Case → Told
-bare c = told (plan_of (record { initial_k = 0; max_k = c.max-k; nexpvals = 0; ceiling = c.ceiling }) [] (enough 0))
+bare c = told (plan_of (record { initial_k = 0; max_k = c.max_k; nexpvals = 0; ceiling = c.ceiling }) [] (enough 0))
 
 -- an expectation value, so that nothing is read; initial_k, words and buffers would all be refused
-abbrev unread-head : Case → Told
-unread-head c =
+abbrev unread_head : Case → Told
+unread_head c =
     told
-    (plan_of (record { initial_k = 513; max_k = c.max-k; nexpvals = 1; ceiling = c.ceiling }) (9 ∷ [])
+    (plan_of (record { initial_k = 513; max_k = c.max_k; nexpvals = 1; ceiling = c.ceiling }) (9 ∷ [])
     (record { steps = 0; merges = 0; sizes = 0; rotations = 0; promotions = 0; measurements = 0; groups = 0 }))
 
 -- max_k below, at and above each ceiling
 abbrev heads : List Case
 heads =
-    record { ceiling = 0; max-k = 0; answer = refusal 24 0 }
-    ∷ record { ceiling = 0; max-k = 1; answer = refusal 24 0 }
-    ∷ record { ceiling = 0; max-k = 62; answer = refusal 24 0 }
-    ∷ record { ceiling = 1; max-k = 0; answer = plan (2 ^ 0) [] }
-    ∷ record { ceiling = 1; max-k = 1; answer = refusal 1 0 }
-    ∷ record { ceiling = 1; max-k = 2; answer = refusal 1 0 }
-    ∷ record { ceiling = 8; max-k = 7; answer = plan (2 ^ 7) [] }
-    ∷ record { ceiling = 8; max-k = 8; answer = refusal 1 0 }
-    ∷ record { ceiling = 8; max-k = 9; answer = refusal 1 0 }
-    ∷ record { ceiling = 9; max-k = 8; answer = plan (2 ^ 8) [] }
-    ∷ record { ceiling = 9; max-k = 9; answer = refusal 1 0 }
-    ∷ record { ceiling = 9; max-k = 10; answer = refusal 1 0 }
-    ∷ record { ceiling = 61; max-k = 60; answer = plan (2 ^ 60) [] }
-    ∷ record { ceiling = 61; max-k = 61; answer = refusal 1 0 }
-    ∷ record { ceiling = 61; max-k = 62; answer = refusal 1 0 }
-    ∷ record { ceiling = 62; max-k = 61; answer = plan (2 ^ 61) [] }
-    ∷ record { ceiling = 62; max-k = 62; answer = refusal 1 0 }
-    ∷ record { ceiling = 62; max-k = 63; answer = refusal 1 0 }
-    ∷ record { ceiling = 63; max-k = 62; answer = refusal 24 0 }
-    ∷ record { ceiling = 63; max-k = 63; answer = refusal 24 0 }
-    ∷ record { ceiling = 63; max-k = 64; answer = refusal 24 0 }
-    ∷ record { ceiling = 2 ^ 64 - 1; max-k = 0; answer = refusal 24 0 }
-    ∷ record { ceiling = 2 ^ 64 - 1; max-k = 2 ^ 64 - 2; answer = refusal 24 0 }
-    ∷ record { ceiling = 2 ^ 64 - 1; max-k = 2 ^ 64 - 1; answer = refusal 24 0 } ∷ []
+    record { ceiling = 0; max_k = 0; answer = refusal 24 0 }
+    ∷ record { ceiling = 0; max_k = 1; answer = refusal 24 0 }
+    ∷ record { ceiling = 0; max_k = 62; answer = refusal 24 0 }
+    ∷ record { ceiling = 1; max_k = 0; answer = plan (2 ^ 0) [] }
+    ∷ record { ceiling = 1; max_k = 1; answer = refusal 1 0 }
+    ∷ record { ceiling = 1; max_k = 2; answer = refusal 1 0 }
+    ∷ record { ceiling = 8; max_k = 7; answer = plan (2 ^ 7) [] }
+    ∷ record { ceiling = 8; max_k = 8; answer = refusal 1 0 }
+    ∷ record { ceiling = 8; max_k = 9; answer = refusal 1 0 }
+    ∷ record { ceiling = 9; max_k = 8; answer = plan (2 ^ 8) [] }
+    ∷ record { ceiling = 9; max_k = 9; answer = refusal 1 0 }
+    ∷ record { ceiling = 9; max_k = 10; answer = refusal 1 0 }
+    ∷ record { ceiling = 61; max_k = 60; answer = plan (2 ^ 60) [] }
+    ∷ record { ceiling = 61; max_k = 61; answer = refusal 1 0 }
+    ∷ record { ceiling = 61; max_k = 62; answer = refusal 1 0 }
+    ∷ record { ceiling = 62; max_k = 61; answer = plan (2 ^ 61) [] }
+    ∷ record { ceiling = 62; max_k = 62; answer = refusal 1 0 }
+    ∷ record { ceiling = 62; max_k = 63; answer = refusal 1 0 }
+    ∷ record { ceiling = 63; max_k = 62; answer = refusal 24 0 }
+    ∷ record { ceiling = 63; max_k = 63; answer = refusal 24 0 }
+    ∷ record { ceiling = 63; max_k = 64; answer = refusal 24 0 }
+    ∷ record { ceiling = 2 ^ 64 - 1; max_k = 0; answer = refusal 24 0 }
+    ∷ record { ceiling = 2 ^ 64 - 1; max_k = 2 ^ 64 - 2; answer = refusal 24 0 }
+    ∷ record { ceiling = 2 ^ 64 - 1; max_k = 2 ^ 64 - 1; answer = refusal 24 0 } ∷ []
 
-pub heads-hold : map bare heads ≡ map (λ (c : Case). c.answer) heads
+pub heads_hold : map bare heads ≡ map (λ (c : Case). c.answer) heads
 unfolding plan_of
-heads-hold = refl
+heads_hold = refl
 
 -- where nothing is read the ceiling decides the same
-pub unread-heads-hold : map unread-head heads ≡ map (λ (c : Case). c.answer) heads
+pub unread_heads_hold : map unread_head heads ≡ map (λ (c : Case). c.answer) heads
 unfolding plan_of
-unread-heads-hold = refl
+unread_heads_hold = refl
 
 -- ---- programs, with max_k 8
 
@@ -109,6 +109,6 @@ programs =
     -- at 61 a join of 61 is too large, which 62 has a plan for
     ∷ record { initial = 61; ceiling = 61; words = rotation 61 (2 ^ 61 - 1); answer = refusal 14 0 } ∷ []
 
-pub programs-hold : map walked programs ≡ map (λ (p : Program). p.answer) programs
+pub programs_hold : map walked programs ≡ map (λ (p : Program). p.answer) programs
 unfolding plan_of
-programs-hold = refl
+programs_hold = refl

@@ -9,191 +9,191 @@ use native.Mathlib.Omega.{arith}
 use lib.ListN.{length, get_or, take, drop, length-take, get_or-eq_default}
 use lib.Seq.{drop-cons}
 use borrow.Author.Tests.{eq-eqb, le-ltb}
-use Rattle.records.specs.Record.{instructionsOf}
+use Rattle.records.specs.Record.{instructions_of}
 use Rattle.records.specs.declared.Head.{Head}
 use Rattle.records.specs.declared.Instruction.{Instruction}
 use Rattle.records.specs.declared.Instruction.TheVariants.{DormantBranch}
-use Rattle.definition.specs.Lists.{numbersFrom, total, concat}
-use Rattle.definition.specs.Components.{allocatedFor}
+use Rattle.definition.specs.Lists.{numbers_from, total, concat}
+use Rattle.definition.specs.Components.{allocated_for}
 use Rattle.definition.specs.Walk.{Walk, start}
-use Rattle.definition.specs.Plan.{Lengths, Plan, planned, unread, planFrom, plan_of}
-use Rattle.definition.specs.Connectivity.{occurrences, Member, NoRepeats, Rearranged, greatest, ActiveOrder, activeStart, activeAfter, Linked, liveAt, moments, replayAfter, replayMembers, SameComponent, longestOf, JoinClaim, isPromotion, isMeasurement, Connected}
-use Rattle.definition.proofs.Steps.{Stepped, Run, more, run-split}
-use Rattle.definition.proofs.Classes.{class-linked}
-use Rattle.definition.proofs.Live.{rearranged-length}
-use Rattle.definition.proofs.Invariant.{holds-start, listed_below}
-use Rattle.definition.proofs.Growth.{AllOf, Grown, grown-refl, run-grown, run-steps, run-rotations, run-measurements, start-wide}
-use Rattle.definition.proofs.Tracking.{Tracked, live_same, start-tracked, run-tracked, run-peak}
-use Rattle.definition.proofs.Replay.{ReplayIs, run-replay, start-replay}
-use Rattle.definition.proofs.Longest.{start-long}
-use Rattle.definition.proofs.Claims.{map_same, concat-numbers, map-entries, start-order, run-count, next_grows, step-claim, run_long, start-is-long, peak-total}
-use Rattle.definition.proofs.Gathering.{all-gather}
-use Rattle.definition.proofs.Room.{component-count, plan-fits}
+use Rattle.definition.specs.Plan.{Lengths, Plan, planned, unread, plan_from, plan_of}
+use Rattle.definition.specs.Connectivity.{occurrences, Member, NoRepeats, Rearranged, greatest, ActiveOrder, active_start, active_after, Linked, live_at, moments, replay_after, replay_members, SameComponent, longest_of, JoinClaim, is_promotion, is_measurement, Connected}
+use Rattle.definition.proofs.Steps.{Stepped, Run, more, run_split}
+use Rattle.definition.proofs.Classes.{class_linked}
+use Rattle.definition.proofs.Live.{rearranged_length}
+use Rattle.definition.proofs.Invariant.{holds_start, listed_below}
+use Rattle.definition.proofs.Growth.{AllOf, Grown, grown_refl, run_grown, run_steps, run_rotations, run_measurements, start_wide}
+use Rattle.definition.proofs.Tracking.{Tracked, live_same, start_tracked, run_tracked, run_peak}
+use Rattle.definition.proofs.Replay.{ReplayIs, run_replay, start_replay}
+use Rattle.definition.proofs.Longest.{start_long}
+use Rattle.definition.proofs.Claims.{map_same, concat_numbers, map_entries, start_order, run_count, next_grows, step_claim, run_long, start_is_long, peak_total}
+use Rattle.definition.proofs.Gathering.{all_gather}
+use Rattle.definition.proofs.Room.{component_count, plan_fits}
 use Rattle.definition.proofs.Accepted.{accepted}
 
-start-peak : (k : ℕ) → (start k).peak ≡ liveAt (activeStart k)
+start_peak : (k : ℕ) → (start k).peak ≡ live_at (active_start k)
 unfolding start
-start-peak k = live_same (map (λ c. c ∷ []) (numbersFrom 0 k)) (activeStart k) (holds-start k)
+start_peak k = live_same (map (λ c. c ∷ []) (numbers_from 0 k)) (active_start k) (holds_start k)
 
-module _ (limit k densePeak : ℕ) (is : List Instruction) (u : Walk) (run : Run limit (start k) is u) where
+module _ (limit k dense_peak : ℕ) (is : List Instruction) (u : Walk) (run : Run limit (start k) is u) where
   abbrev plan : Plan
-  plan = planFrom k densePeak u
+  plan = plan_from k dense_peak u
 
-  pub rotations-wide : AllOf 21 u.written.rotations
-  rotations-wide = run-rotations run (start-wide k 21).0
+  pub rotations_wide : AllOf 21 u.written.rotations
+  rotations_wide = run_rotations run (start_wide k 21).0
 
-  pub measurements-wide : AllOf 19 u.written.measurements
-  measurements-wide = run-measurements run (start-wide k 19).1
+  pub measurements_wide : AllOf 19 u.written.measurements
+  measurements_wide = run_measurements run (start_wide k 19).1
 
   abbrev pub Follows : ℕ → Walk → Type 0
-  Follows m w = ReplayIs k densePeak u rotations-wide measurements-wide m w
+  Follows m w = ReplayIs k dense_peak u rotations_wide measurements_wide m w
 
-  pub start-steps : length (start k).written.steps ≡ 2 * 0
+  pub start_steps : length (start k).written.steps ≡ 2 * 0
   unfolding start
-  start-steps = refl
+  start_steps = refl
 
   -- the walk after m records
   pub record At (m : ℕ) : Type 0 where
     pub state : Walk
     pub front : Run limit (start k) (take m is) state
     pub back : Run limit state (drop m is) u
-    pub tracked : Tracked state (activeAfter (activeStart k) (take m is))
+    pub tracked : Tracked state (active_after (active_start k) (take m is))
     pub follows : Follows m state
-    pub steps-same : length state.written.steps ≡ 2 * m
-    pub components-within : length state.components ≤ length u.components
+    pub steps_same : length state.written.steps ≡ 2 * m
+    pub components_within : length state.components ≤ length u.components
 
   pub cut : (m : ℕ) → m ≤ length is → At m
   cut m h =
-      let parts = run-split m run in
+      let parts = run_split m run in
       let taken : length (take m is) ≡ m = let e = length-take m is in omega arith in
-      let t = run-tracked (activeStart k) parts.1 (start-tracked k) in
-      let last = run-tracked (activeAfter (activeStart k) (take m is)) parts.2 t in
-      let replay = run-replay k densePeak u rotations-wide measurements-wide 0 (activeStart k) parts.1 (run-grown parts.2) start-steps (start-tracked k)
-      (start-replay k densePeak u rotations-wide measurements-wide) in
-      let steps = run-steps parts.1 in
-      let zero-steps = start-steps in
-      let grows = next_grows (activeAfter (activeStart k) (take m is)) (drop m is) in
-      let a = t.holds.next-same in
-      let b = last.holds.next-same in record {
+      let t = run_tracked (active_start k) parts.1 (start_tracked k) in
+      let last = run_tracked (active_after (active_start k) (take m is)) parts.2 t in
+      let replay = run_replay k dense_peak u rotations_wide measurements_wide 0 (active_start k) parts.1 (run_grown parts.2) start_steps (start_tracked k)
+      (start_replay k dense_peak u rotations_wide measurements_wide) in
+      let steps = run_steps parts.1 in
+      let zero_steps = start_steps in
+      let grows = next_grows (active_after (active_start k) (take m is)) (drop m is) in
+      let a = t.holds.next_same in
+      let b = last.holds.next_same in record {
         state = parts.0;
         front = parts.1;
         back = parts.2;
         tracked = t;
-        follows = λ i. let e : 0 + length (take m is) ≡ m = omega arith in ap (λ (n : ℕ). replayAfter plan n i) (sym e) ∙ replay i;
-        steps-same = omega arith;
-        components-within = omega arith;
+        follows = λ i. let e : 0 + length (take m is) ≡ m = omega arith in ap (λ (n : ℕ). replay_after plan n i) (sym e) ∙ replay i;
+        steps_same = omega arith;
+        components_within = omega arith;
       }
 
   module _ (m : ℕ) (at : At m) where
-    abbrev now-active : ActiveOrder
-    now-active = activeAfter (activeStart k) (take m is)
+    abbrev now_active : ActiveOrder
+    now_active = active_after (active_start k) (take m is)
 
     abbrev components : List (List ℕ)
     components = at.state.components
 
     -- the bins' members are the components', one after the other
-    members-are : replayMembers plan (replayAfter plan m) ≡ concat components
-    unfolding planFrom
-    members-are =
-        ap concat (map_same (replayAfter plan m) (λ i. get_or components i []) at.follows (numbersFrom 0 (length u.components)))
-        ∙ concat-numbers components (length u.components) at.components-within
+    members_are : replay_members plan (replay_after plan m) ≡ concat components
+    unfolding plan_from
+    members_are =
+        ap concat (map_same (replay_after plan m) (λ i. get_or components i []) at.follows (numbers_from 0 (length u.components)))
+        ∙ concat_numbers components (length u.components) at.components_within
 
-    beyond : (i : ℕ) → plan.componentCount ≤ i → replayAfter plan m i ≡ []
-    unfolding planFrom
-    beyond i h = at.follows i ∙ get_or-eq_default components [] (let w = at.components-within in omega arith)
+    beyond : (i : ℕ) → plan.component_count ≤ i → replay_after plan m i ≡ []
+    unfolding plan_from
+    beyond i h = at.follows i ∙ get_or-eq_default components [] (let w = at.components_within in omega arith)
 
-    rearranged : Rearranged (replayMembers plan (replayAfter plan m)) now-active.order
-    rearranged a = ap (occurrences a) members-are ∙ at.tracked.holds.held a
+    rearranged : Rearranged (replay_members plan (replay_after plan m)) now_active.order
+    rearranged a = ap (occurrences a) members_are ∙ at.tracked.holds.held a
 
-    once : NoRepeats (replayMembers plan (replayAfter plan m))
+    once : NoRepeats (replay_members plan (replay_after plan m))
     once a = let e = rearranged a in let o = at.tracked.holds.once a in omega arith
 
-    counted : length (replayMembers plan (replayAfter plan m)) + total (map isMeasurement (take m is)) ≡ k + total (map isPromotion (take m is))
+    counted : length (replay_members plan (replay_after plan m)) + total (map is_measurement (take m is)) ≡ k + total (map is_promotion (take m is))
     counted =
-        let e = rearranged-length (replayMembers plan (replayAfter plan m)) now-active.order rearranged in
+        let e = rearranged_length (replay_members plan (replay_after plan m)) now_active.order rearranged in
         let o = ap length at.tracked.order_same in
-        let c = run-count at.front in
-        let s = start-order k in omega arith
+        let c = run_count at.front in
+        let s = start_order k in omega arith
 
-    same-components : (a b : ℕ) → Member a now-active.order → Member b now-active.order → SameComponent plan (replayAfter plan m) a b ↔ Linked now-active.links a b
-    unfolding planFrom
-    same-components a b ma mb =
+    same_components : (a b : ℕ) → Member a now_active.order → Member b now_active.order → SameComponent plan (replay_after plan m) a b ↔ Linked now_active.links a b
+    unfolding plan_from
+    same_components a b ma mb =
         let h = at.tracked.holds in
         let c = h.classes a b ma mb in
-        let l = class-linked now-active.links a b in (
+        let l = class_linked now_active.links a b in (
           λ s. l.0 (c.0 (s.component, subst (λ (xs : List ℕ). Member a xs) (at.follows s.component) s.first, subst (λ (xs : List ℕ). Member b xs) (at.follows s.component) s.second)),
           λ x. let s = c.1 (l.1 x) in record {
             component = s.0;
-            listed = let i = listed_below components s.0 a s.1 in let w = at.components-within in omega arith;
+            listed = let i = listed_below components s.0 a s.1 in let w = at.components_within in omega arith;
             first = subst (λ (xs : List ℕ). Member a xs) (sym (at.follows s.0)) s.1;
             second = subst (λ (xs : List ℕ). Member b xs) (sym (at.follows s.0)) s.2;
           },
         )
 
     -- what holds of the step that the walk takes after m records holds of record m
-    pub next-step : (claim : Instruction → Type 0) → ((v : Walk) (i : Instruction) → Stepped limit at.state i v → Grown v.written u.written → claim i)
+    pub next_step : (claim : Instruction → Type 0) → ((v : Walk) (i : Instruction) → Stepped limit at.state i v → Grown v.written u.written → claim i)
         → m < length is → claim (get_or is m DormantBranch)
-    next-step claim of-step h = first (drop m is) at.back (drop-cons is m DormantBranch h)
+    next_step claim of-step h = first (drop m is) at.back (drop-cons is m DormantBranch h)
       where
         first : (rest : List Instruction) → Run limit at.state rest u → rest ≡ get_or is m DormantBranch ∷ drop (suc m) is → claim (get_or is m DormantBranch)
         first [] r e = let z : ◌≡◌ {A = ℕ} 0 1 = cc in absurd (omega arith)
         first (i ∷ rest) r e =
             let same : i ≡ get_or is m DormantBranch = cc in
-            subst claim same (of-run i rest r)
+            subst claim same (of_run i rest r)
           where
-            of-run : (i : Instruction) (rest : List Instruction) → Run limit at.state (i ∷ rest) u → claim i
-            of-run i rest (more {v = v} s later) = of-step v i s (run-grown later)
+            of_run : (i : Instruction) (rest : List Instruction) → Run limit at.state (i ∷ rest) u → claim i
+            of_run i rest (more {v = v} s later) = of-step v i s (run_grown later)
 
-    claims : m < length is → JoinClaim plan m now-active (get_or is m DormantBranch)
+    claims : m < length is → JoinClaim plan m now_active (get_or is m DormantBranch)
     claims h =
-        next-step (JoinClaim plan m now-active)
-        (λ v i s g. step-claim k densePeak u rotations-wide measurements-wide m now-active s at.steps-same g at.tracked at.follows) h
+        next_step (JoinClaim plan m now_active)
+        (λ v i s g. step_claim k dense_peak u rotations_wide measurements_wide m now_active s at.steps_same g at.tracked at.follows) h
 
   -- the components are those at the start and one for each promotion
-  made : plan.componentCount ≡ k + total (map isPromotion is)
-  unfolding planFrom
-  made = component-count k run
+  made : plan.component_count ≡ k + total (map is_promotion is)
+  unfolding plan_from
+  made = component_count k run
 
   -- the plan's peak is the greatest live dimension over all moments
-  peak-is : plan.peak ≡ greatest (map liveAt (activeStart k ∷ moments (activeStart k) is))
-  unfolding planFrom
-  peak-is = run-peak (activeStart k) run (start-tracked k) ∙ ap (λ (n : ℕ). max n (greatest (map liveAt (moments (activeStart k) is)))) (start-peak k)
+  peak_is : plan.peak ≡ greatest (map live_at (active_start k ∷ moments (active_start k) is))
+  unfolding plan_from
+  peak_is = run_peak (active_start k) run (start_tracked k) ∙ ap (λ (n : ℕ). max n (greatest (map live_at (moments (active_start k) is)))) (start_peak k)
 
   -- the longest sizes are the greatest lengths of the bins
-  pub longest-is : (c : ℕ) → longestOf plan (length is) c ≡ get_or u.longest c 0
-  longest-is c =
+  pub longest_is : (c : ℕ) → longest_of plan (length is) c ≡ get_or u.longest c 0
+  longest_is c =
       let e : length is ≡ 0 + length is = omega arith in
-      ap (λ (n : ℕ). longestOf plan n c) e
-      ∙ run_long k densePeak u rotations-wide measurements-wide 0 (activeStart k) run (grown-refl u.written) start-steps (start-tracked k)
-      (start-replay k densePeak u rotations-wide measurements-wide) (start-is-long k)
-      (λ d. ap length (start-replay k densePeak u rotations-wide measurements-wide d) ∙ sym (start-long k d)) c
+      ap (λ (n : ℕ). longest_of plan n c) e
+      ∙ run_long k dense_peak u rotations_wide measurements_wide 0 (active_start k) run (grown_refl u.written) start_steps (start_tracked k)
+      (start_replay k dense_peak u rotations_wide measurements_wide) (start_is_long k)
+      (λ d. ap length (start_replay k dense_peak u rotations_wide measurements_wide d) ∙ sym (start_long k d)) c
 
-  allocated-is : plan.allocated ≡ min (2 ^ 64 - 1) (total (map (λ c. 2 ^ longestOf plan (length is) c) (numbersFrom 0 plan.componentCount)))
-  unfolding planFrom allocatedFor
-  allocated-is =
-      let last = run-tracked (activeStart k) run (start-tracked k) in
+  allocated_is : plan.allocated ≡ min (2 ^ 64 - 1) (total (map (λ c. 2 ^ longest_of plan (length is) c) (numbers_from 0 plan.component_count)))
+  unfolding plan_from allocated_for
+  allocated_is =
+      let last = run_tracked (active_start k) run (start_tracked k) in
       ap (λ (l : List ℕ). min (2 ^ 64 - 1) (total l))
-      (sym (map_same (λ c. 2 ^ longestOf plan (length is) c) (λ c. 2 ^ get_or u.longest c 0) (λ c. ap (λ (n : ℕ). 2 ^ n) (longest-is c)) (numbersFrom 0 (length u.components))
-      ∙ map-entries (λ n. 2 ^ n) u.longest (length u.components) last.longest-same))
+      (sym (map_same (λ c. 2 ^ longest_of plan (length is) c) (λ c. 2 ^ get_or u.longest c 0) (λ c. ap (λ (n : ℕ). 2 ^ n) (longest_is c)) (numbers_from 0 (length u.components))
+      ∙ map_entries (λ n. 2 ^ n) u.longest (length u.components) last.longest_same))
 
-  peak-below : plan.peak < 2 ^ 63 → plan.peak ≤ plan.allocated
-  unfolding planFrom allocatedFor
-  peak-below small = let e = peak-total k run in omega arith
+  peak_below : plan.peak < 2 ^ 63 → plan.peak ≤ plan.allocated
+  unfolding plan_from allocated_for
+  peak_below small = let e = peak_total k run in omega arith
 
-  pub run-connected : plan.peak < 2 ^ 63 → (m : ℕ) → m ≤ length is → Connected k is plan m
-  run-connected small m h =
+  pub run_connected : plan.peak < 2 ^ 63 → (m : ℕ) → m ≤ length is → Connected k is plan m
+  run_connected small m h =
       let at = cut m h in record {
         rearrangement = rearranged m at;
-        no-repeats = once m at;
-        none-beyond = beyond m at;
+        no_repeats = once m at;
+        none_beyond = beyond m at;
         all_made = made;
         count = counted m at;
-        same-component = same-components m at;
+        same_component = same_components m at;
         joins = claims m at;
-        gathered = all-gather k run (start-tracked k);
-        peak = peak-is;
-        allocated = allocated-is;
-        peak-fits = peak-below small;
+        gathered = all_gather k run (start_tracked k);
+        peak = peak_is;
+        allocated = allocated_is;
+        peak_fits = peak_below small;
       }
 
 -- a head with max_k of at least 8 and no expectation values has its records read
@@ -202,9 +202,9 @@ read_head h wide none = ap₂ (λ (a b : Bool). a || not b) (le-ltb h.max_k 8 wi
 
 -- Demand 3
 pub connected : (h : Head) (ws : List ℕ) (l : Lengths) (p : Plan) → plan_of h ws l ≡ planned p → 8 ≤ h.max_k → h.nexpvals ≡ 0
-    → (m : ℕ) → m ≤ length (instructionsOf ws) → Connected h.initial_k (instructionsOf ws) p m
+    → (m : ℕ) → m ≤ length (instructions_of ws) → Connected h.initial_k (instructions_of ws) p m
 connected h ws l p e wide none m within =
     let a = accepted h ws l p (read_head h wide none) e in
-    let small = subst (λ (q : Plan). q.peak < 2 ^ 63) a.plan-is (plan-fits h ws l p e).peak in
-    subst (λ (q : Plan). Connected h.initial_k (instructionsOf ws) q m) (sym a.plan-is)
-    (run-connected h.ceiling h.initial_k a.densePeak (instructionsOf ws) a.last a.run small m within)
+    let small = subst (λ (q : Plan). q.peak < 2 ^ 63) a.plan_is (plan_fits h ws l p e).peak in
+    subst (λ (q : Plan). Connected h.initial_k (instructions_of ws) q m) (sym a.plan_is)
+    (run_connected h.ceiling h.initial_k a.dense_peak (instructions_of ws) a.last a.run small m within)

@@ -7,8 +7,8 @@ use native.Mathlib.Nat.{zero-add}
 use native.Mathlib.Omega.{arith}
 use lib.ListN.{length, get_or, set, length-set, length-map, get_or-map}
 use lib.Seq.{get_or-set_same, get_or-set_other, ext_get_or}
-use Rattle.definition.specs.Lists.{numbersFrom}
-use Rattle.definition.proofs.Counting.{same_or_not, length-numbers, numbers-at}
+use Rattle.definition.specs.Lists.{numbers_from}
+use Rattle.definition.proofs.Counting.{same_or_not, length-numbers, numbers_at}
 
 -- n entries, of which the first i are those of f
 abbrev pub Filled : {A : Type 0} → (ℕ → A) → ℕ → ℕ → List A → Type 0
@@ -29,7 +29,7 @@ filled_next f n i ys l filled = (
 )
 
 -- all
-pub filled-all : {A : Type 0} (f : ℕ → A) (n : ℕ) (ys : List A) → Filled f n n ys → ys ≡ map f (numbersFrom 0 n)
-filled-all f n ys filled = ext_get_or (f 0) ys (map f (numbersFrom 0 n)) (filled.0 ∙ sym (length-map (numbersFrom 0 n) f ∙ length-numbers 0 n)) (λ j h.
+pub filled_all : {A : Type 0} (f : ℕ → A) (n : ℕ) (ys : List A) → Filled f n n ys → ys ≡ map f (numbers_from 0 n)
+filled_all f n ys filled = ext_get_or (f 0) ys (map f (numbers_from 0 n)) (filled.0 ∙ sym (length-map (numbers_from 0 n) f ∙ length-numbers 0 n)) (λ j h.
     let long = filled.0 in
-    filled.1 j (omega arith) ∙ sym (get_or-map f (numbersFrom 0 n) j 0 ∙ ap f (numbers-at 0 n j 0 (omega arith) ∙ zero-add j)))
+    filled.1 j (omega arith) ∙ sym (get_or-map f (numbers_from 0 n) j 0 ∙ ap f (numbers_at 0 n j 0 (omega arith) ∙ zero-add j)))

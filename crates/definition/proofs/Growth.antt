@@ -12,22 +12,22 @@ use lib.Dec.{eqb, ltb}
 use lib.ListN.{length, get_or, take, drop, length-append}
 use lib.Seq.{take_at, drop_at, drop-drop}
 use lib.Ieee.{Float}
-use Rattle.kernels.specs.Bits.{bitAt, dimension}
-use Rattle.kernels.specs.Active.{Answer, given, refused, ofDimension, rotation, measurement, imaginary}
+use Rattle.kernels.specs.Bits.{bit_at, dimension}
+use Rattle.kernels.specs.Active.{Answer, given, refused, of_dimension, rotation, measurement, imaginary}
 use Rattle.kernels.specs.declared.active.ActivePauliAction.{ActivePauliAction}
 use Rattle.kernels.specs.declared.active.PrecomputedActivePauliRotationKernel.{PrecomputedActivePauliRotationKernel}
 use Rattle.kernels.specs.declared.active.PrecomputedActivePauliMeasurementKernel.{PrecomputedActivePauliMeasurementKernel}
-use Rattle.records.specs.Record.{instructionsOf}
-use Rattle.records.specs.Pass.{recordPass}
+use Rattle.records.specs.Record.{instructions_of}
+use Rattle.records.specs.Pass.{record_pass}
 use Rattle.records.specs.declared.Head.{Head}
 use Rattle.records.specs.declared.Checked.{Checked}
 use Rattle.records.specs.declared.Checked.TheVariants.{Passed, Refused}
 use Rattle.records.specs.declared.Instruction.{Instruction}
 use Rattle.records.specs.declared.Instruction.TheVariants.{Rotation, Promotion, RecordMeasurement, RecordDetector, Measurement, Expectation, DormantBranch}
-use Rattle.records.proofs.Laws.{refused-in, instructions-length}
-use Rattle.definition.specs.Lists.{concat, isIn, place_of, removeAt}
-use Rattle.definition.specs.Walk.{Written, Walk, join_of, localAction, rotationRow, measurementRow, withStep, refuse, whenGiven, is_none, noStep, ignoredStep, promotionStep, rotationStep, measurementStep, rotate, measure, step, Walked, finished, stopped, onward, start, walkFrom}
-use Rattle.definition.specs.Plan.{Lengths, Plan, Result, planned, refusedAt, unread, wordsRefused, buffersRefused, afterWalk, afterPass, refuseAll, planRead, maxDimension, forDensePeak, ceilingRefused, plan_of}
+use Rattle.records.proofs.Laws.{refused_in, instructions_length}
+use Rattle.definition.specs.Lists.{concat, is_in, place_of, remove_at}
+use Rattle.definition.specs.Walk.{Written, Walk, join_of, local_action, rotation_row, measurement_row, with_step, refuse, when_given, is_none, no_step, ignored_step, promotion_step, rotation_step, measurement_step, rotate, measure, step, Walked, finished, stopped, onward, start, walk_from}
+use Rattle.definition.specs.Plan.{Lengths, Plan, Result, planned, refused_at, unread, words_refused, buffers_refused, after_walk, after_pass, refuse_all, plan_read, max_dimension, for_dense_peak, ceiling_refused, plan_of}
 use Rattle.definition.proofs.Steps.{Stepped, ignored, rotated, promoted, measured, recorded, detected, expected, branched, Run, done, more}
 
 -- ---- lists that go on
@@ -37,12 +37,12 @@ abbrev pub Extends : {A : Type 0} → List A → List A → Type 0
 Extends xs ys = (t : List _) × (ys ≡ xs ++ t)
 
 -- a list goes on as itself
-pub extends-refl : {A : Type 0} (xs : List A) → Extends xs xs
-extends-refl xs = ([], sym (append-nil xs))
+pub extends_refl : {A : Type 0} (xs : List A) → Extends xs xs
+extends_refl xs = ([], sym (append-nil xs))
 
 -- and what goes on from that goes on from the first
-pub extends-trans : {A : Type 0} (xs ys zs : List A) → Extends xs ys → Extends ys zs → Extends xs zs
-extends-trans xs ys zs e f = (e.0 ++ f.0, f.1 ∙ ap (λ (l : List _). l ++ f.0) e.1 ∙ append_assoc xs e.0 f.0)
+pub extends_trans : {A : Type 0} (xs ys zs : List A) → Extends xs ys → Extends ys zs → Extends xs zs
+extends_trans xs ys zs e f = (e.0 ++ f.0, f.1 ∙ ap (λ (l : List _). l ++ f.0) e.1 ∙ append_assoc xs e.0 f.0)
 
 -- every output is the earlier one with a tail
 pub record Grown (o u : Written) : Type 0 where
@@ -53,28 +53,28 @@ pub record Grown (o u : Written) : Type 0 where
   pub measurements : Extends o.measurements u.measurements
 
 -- nothing appended
-pub grown-refl : (o : Written) → Grown o o
-grown-refl o = record {
-  steps = extends-refl o.steps;
-  merges = extends-refl o.merges;
-  rotations = extends-refl o.rotations;
-  promotions = extends-refl o.promotions;
-  measurements = extends-refl o.measurements;
+pub grown_refl : (o : Written) → Grown o o
+grown_refl o = record {
+  steps = extends_refl o.steps;
+  merges = extends_refl o.merges;
+  rotations = extends_refl o.rotations;
+  promotions = extends_refl o.promotions;
+  measurements = extends_refl o.measurements;
 }
 
 -- appended twice
-pub grown-trans : {o u t : Written} → Grown o u → Grown u t → Grown o t
-grown-trans {o} {u} {t} g h = record {
-  steps = extends-trans o.steps u.steps t.steps g.steps h.steps;
-  merges = extends-trans o.merges u.merges t.merges g.merges h.merges;
-  rotations = extends-trans o.rotations u.rotations t.rotations g.rotations h.rotations;
-  promotions = extends-trans o.promotions u.promotions t.promotions g.promotions h.promotions;
-  measurements = extends-trans o.measurements u.measurements t.measurements g.measurements h.measurements;
+pub grown_trans : {o u t : Written} → Grown o u → Grown u t → Grown o t
+grown_trans {o} {u} {t} g h = record {
+  steps = extends_trans o.steps u.steps t.steps g.steps h.steps;
+  merges = extends_trans o.merges u.merges t.merges g.merges h.merges;
+  rotations = extends_trans o.rotations u.rotations t.rotations g.rotations h.rotations;
+  promotions = extends_trans o.promotions u.promotions t.promotions g.promotions h.promotions;
+  measurements = extends_trans o.measurements u.measurements t.measurements g.measurements h.measurements;
 }
 
 -- a list that goes on is no shorter
-pub extends-length : {A : Type 0} (xs ys : List A) → Extends xs ys → length xs ≤ length ys
-extends-length xs ys e = let l = ap length e.1 ∙ length-append xs e.0 in omega arith
+pub extends_length : {A : Type 0} (xs ys : List A) → Extends xs ys → length xs ≤ length ys
+extends_length xs ys e = let l = ap length e.1 ∙ length-append xs e.0 in omega arith
 
 -- ---- rows
 
@@ -102,26 +102,26 @@ each_more P (r ∷ rows) row all p zero h = all zero (omega arith)
 each_more P (r ∷ rows) row all p (suc i) h = each_more P rows row (λ j g. all (suc j) (omega arith)) p i (omega arith)
 
 -- a longer merge list still holds them
-pub inside-wider : (m n : ℕ) (rows : List (List ℕ)) → m ≤ n → AllInside m rows → AllInside n rows
-inside-wider m n rows h all i g = let a = all i g in omega arith
+pub inside_wider : (m n : ℕ) (rows : List (List ℕ)) → m ≤ n → AllInside m rows → AllInside n rows
+inside_wider m n rows h all i g = let a = all i g in omega arith
 
 -- "Rotation rows, 21 words"
-pub rotation-row-length : (component offset count : ℕ) (k : PrecomputedActivePauliRotationKernel) → length (rotationRow component offset count k) ≡ 21
-unfolding rotationRow
-rotation-row-length component offset count k = refl
+pub rotation_row_length : (component offset count : ℕ) (k : PrecomputedActivePauliRotationKernel) → length (rotation_row component offset count k) ≡ 21
+unfolding rotation_row
+rotation_row_length component offset count k = refl
 
 -- "Measurement rows, 19"
-pub measurement-row-length : (component offset count : ℕ) (k : PrecomputedActivePauliMeasurementKernel) (t : Bool)
-    → length (measurementRow component offset count k t) ≡ 19
-unfolding measurementRow
-measurement-row-length component offset count k t = refl
+pub measurement_row_length : (component offset count : ℕ) (k : PrecomputedActivePauliMeasurementKernel) (t : Bool)
+    → length (measurement_row component offset count k t) ≡ 19
+unfolding measurement_row
+measurement_row_length component offset count k t = refl
 
 -- rows of n words one after the other: the words in number
-pub length-concat : (n : ℕ) (rows : List (List ℕ)) → AllOf n rows → length (concat rows) ≡ n * length rows
-length-concat n [] all = sym (mul-zero n)
-length-concat n (r ∷ rows) all =
+pub length_concat : (n : ℕ) (rows : List (List ℕ)) → AllOf n rows → length (concat rows) ≡ n * length rows
+length_concat n [] all = sym (mul-zero n)
+length_concat n (r ∷ rows) all =
     let here = all zero (omega arith) in
-    let rest = length-concat n rows (λ i h. all (suc i) (omega arith)) in
+    let rest = length_concat n rows (λ i h. all (suc i) (omega arith)) in
     length-append r (concat rows) ∙ let m = mul-suc n (length rows) in omega arith
 
 -- rows behind rows
@@ -130,8 +130,8 @@ concat-append [] ys = refl
 concat-append (x ∷ xs) ys = ap (λ (l : List ℕ). x ++ l) (concat-append xs ys) ∙ sym (append_assoc x (concat xs) (concat ys))
 
 -- one row behind them
-pub concat-more : (rows : List (List ℕ)) (row : List ℕ) → concat (rows ++ (row ∷ [])) ≡ concat rows ++ row
-concat-more rows row = concat-append rows (row ∷ []) ∙ ap (λ (l : List ℕ). concat rows ++ l) (append-nil row)
+pub concat_more : (rows : List (List ℕ)) (row : List ℕ) → concat (rows ++ (row ∷ [])) ≡ concat rows ++ row
+concat_more rows row = concat-append rows (row ∷ []) ∙ ap (λ (l : List ℕ). concat rows ++ l) (append-nil row)
 
 -- and row i again, from n * i on
 pub row-at : (n : ℕ) (rows : List (List ℕ)) (i : ℕ) → AllOf n rows → i < length rows → take n (drop (n * i) (concat rows)) ≡ get_or rows i []
@@ -148,168 +148,168 @@ row-at n (r ∷ rows) (suc i) all h =
 -- ---- what n steps append
 
 -- all rows
-abbrev pub rowCount : Written → ℕ
-rowCount o = length o.rotations + length o.promotions + length o.measurements
+abbrev pub row_count : Written → ℕ
+row_count o = length o.rotations + length o.promotions + length o.measurements
 
 -- n steps append two words of steps each, a row each at most, and keep every law of the rows
 pub record Appended (n : ℕ) (o u : Written) : Type 0 where
   pub grown : Grown o u
-  pub steps-more : length u.steps ≡ length o.steps + 2 * n
-  pub rows_more : rowCount u ≤ rowCount o + n
-  pub rotations-wide : AllOf 21 o.rotations → AllOf 21 u.rotations
-  pub measurements-wide : AllOf 19 o.measurements → AllOf 19 u.measurements
+  pub steps_more : length u.steps ≡ length o.steps + 2 * n
+  pub rows_more : row_count u ≤ row_count o + n
+  pub rotations_wide : AllOf 21 o.rotations → AllOf 21 u.rotations
+  pub measurements_wide : AllOf 19 o.measurements → AllOf 19 u.measurements
   pub rows_inside : Inside o → Inside u
 
 -- no steps
-appended-refl : (o : Written) → Appended 0 o o
-appended-refl o =
-    record { grown = grown-refl o; steps-more = omega arith; rows_more = omega arith; rotations-wide = λ h. h; measurements-wide = λ h. h; rows_inside = λ h. h }
+appended_refl : (o : Written) → Appended 0 o o
+appended_refl o =
+    record { grown = grown_refl o; steps_more = omega arith; rows_more = omega arith; rotations_wide = λ h. h; measurements_wide = λ h. h; rows_inside = λ h. h }
 
 -- one step, then n steps
 appended_then : {n : ℕ} {o u t : Written} → Appended 1 o u → Appended n u t → Appended (suc n) o t
 appended_then a b = record {
-  grown = grown-trans a.grown b.grown;
-  steps-more = let e = a.steps-more in let f = b.steps-more in omega arith;
+  grown = grown_trans a.grown b.grown;
+  steps_more = let e = a.steps_more in let f = b.steps_more in omega arith;
   rows_more = let e = a.rows_more in let f = b.rows_more in omega arith;
-  rotations-wide = λ h. b.rotations-wide (a.rotations-wide h);
-  measurements-wide = λ h. b.measurements-wide (a.measurements-wide h);
+  rotations_wide = λ h. b.rotations_wide (a.rotations_wide h);
+  measurements_wide = λ h. b.measurements_wide (a.measurements_wide h);
   rows_inside = λ h. b.rows_inside (a.rows_inside h);
 }
 
 -- a step that writes no row
-appended-none : (kind payload : ℕ) (o : Written) → Appended 1 o (withStep kind payload o)
-appended-none kind payload o = record {
+appended_none : (kind payload : ℕ) (o : Written) → Appended 1 o (with_step kind payload o)
+appended_none kind payload o = record {
   grown = record {
     steps = (kind ∷ payload ∷ [], refl);
-    merges = extends-refl o.merges;
-    rotations = extends-refl o.rotations;
-    promotions = extends-refl o.promotions;
-    measurements = extends-refl o.measurements;
+    merges = extends_refl o.merges;
+    rotations = extends_refl o.rotations;
+    promotions = extends_refl o.promotions;
+    measurements = extends_refl o.measurements;
   };
-  steps-more = length-append o.steps (kind ∷ payload ∷ []);
+  steps_more = length-append o.steps (kind ∷ payload ∷ []);
   rows_more = omega arith;
-  rotations-wide = λ h. h;
-  measurements-wide = λ h. h;
+  rotations_wide = λ h. h;
+  measurements_wide = λ h. h;
   rows_inside = λ h. h;
 }
 
 -- what one accepted step writes
-pub step-appended : {limit : ℕ} {w v : Walk} {i : Instruction} → Stepped limit w i v → Appended 1 w.written v.written
-unfolding noStep ignoredStep promotionStep rotationStep measurementStep rotationRow measurementRow
-step-appended {w = w} (ignored x z phase angle sine cosine e) = appended-none 1 0 w.written
-step-appended {w = w} (rotated width x z phase angle sine cosine k e a b c d) =
+pub step_appended : {limit : ℕ} {w v : Walk} {i : Instruction} → Stepped limit w i v → Appended 1 w.written v.written
+unfolding no_step ignored_step promotion_step rotation_step measurement_step rotation_row measurement_row
+step_appended {w = w} (ignored x z phase angle sine cosine e) = appended_none 1 0 w.written
+step_appended {w = w} (rotated width x z phase angle sine cosine k e a b c d) =
     let o = w.written in
     let j = join_of x z w in
-    let row = rotationRow j.component (length o.merges) (length j.sources) k in
+    let row = rotation_row j.component (length o.merges) (length j.sources) k in
     let wider : length (o.merges ++ j.sources) ≡ length o.merges + length j.sources = length-append o.merges j.sources in record {
       grown = record {
         steps = (2 ∷ length o.rotations ∷ [], refl);
         merges = (j.sources, refl);
         rotations = (row ∷ [], refl);
-        promotions = extends-refl o.promotions;
-        measurements = extends-refl o.measurements;
+        promotions = extends_refl o.promotions;
+        measurements = extends_refl o.measurements;
       };
-      steps-more = length-append o.steps (2 ∷ length o.rotations ∷ []);
+      steps_more = length-append o.steps (2 ∷ length o.rotations ∷ []);
       rows_more = let l = length-append o.rotations (row ∷ []) in omega arith;
-      rotations-wide = λ h. each_more (λ r. length r ≡ 21) o.rotations row h refl;
-      measurements-wide = λ h. h;
+      rotations_wide = λ h. each_more (λ r. length r ≡ 21) o.rotations row h refl;
+      measurements_wide = λ h. h;
       rows_inside = λ h. (
         each_more (λ r. get_or r 1 0 + get_or r 2 0 ≤ length (o.merges ++ j.sources)) o.rotations row
-            (inside-wider (length o.merges) (length (o.merges ++ j.sources)) o.rotations (omega arith) h.0) (omega arith),
-        inside-wider (length o.merges) (length (o.merges ++ j.sources)) o.measurements (omega arith) h.1,
+            (inside_wider (length o.merges) (length (o.merges ++ j.sources)) o.rotations (omega arith) h.0) (omega arith),
+        inside_wider (length o.merges) (length (o.merges ++ j.sources)) o.measurements (omega arith) h.1,
       );
     }
-step-appended {w = w} promoted =
+step_appended {w = w} promoted =
     let o = w.written in
     let next = length w.components in record {
       grown = record {
         steps = (3 ∷ length o.promotions ∷ [], refl);
-        merges = extends-refl o.merges;
-        rotations = extends-refl o.rotations;
+        merges = extends_refl o.merges;
+        rotations = extends_refl o.rotations;
         promotions = (next ∷ [], refl);
-        measurements = extends-refl o.measurements;
+        measurements = extends_refl o.measurements;
       };
-      steps-more = length-append o.steps (3 ∷ length o.promotions ∷ []);
+      steps_more = length-append o.steps (3 ∷ length o.promotions ∷ []);
       rows_more = let l = length-append o.promotions (next ∷ []) in omega arith;
-      rotations-wide = λ h. h;
-      measurements-wide = λ h. h;
+      rotations_wide = λ h. h;
+      measurements_wide = λ h. h;
       rows_inside = λ h. h;
     }
-step-appended {w = w} (measured width x z phase pivot k e a b c d f g) =
+step_appended {w = w} (measured width x z phase pivot k e a b c d f g) =
     let o = w.written in
     let j = join_of x z w in
-    let row = measurementRow j.component (length o.merges) (length j.sources) k (eqb (length (removeAt k.pivot j.members)) 0) in
+    let row = measurement_row j.component (length o.merges) (length j.sources) k (eqb (length (remove_at k.pivot j.members)) 0) in
     let wider : length (o.merges ++ j.sources) ≡ length o.merges + length j.sources = length-append o.merges j.sources in record {
       grown = record {
         steps = (4 ∷ length o.measurements ∷ [], refl);
         merges = (j.sources, refl);
-        rotations = extends-refl o.rotations;
-        promotions = extends-refl o.promotions;
+        rotations = extends_refl o.rotations;
+        promotions = extends_refl o.promotions;
         measurements = (row ∷ [], refl);
       };
-      steps-more = length-append o.steps (4 ∷ length o.measurements ∷ []);
+      steps_more = length-append o.steps (4 ∷ length o.measurements ∷ []);
       rows_more = let l = length-append o.measurements (row ∷ []) in omega arith;
-      rotations-wide = λ h. h;
-      measurements-wide = λ h. each_more (λ r. length r ≡ 19) o.measurements row h refl;
+      rotations_wide = λ h. h;
+      measurements_wide = λ h. each_more (λ r. length r ≡ 19) o.measurements row h refl;
       rows_inside = λ h. (
-        inside-wider (length o.merges) (length (o.merges ++ j.sources)) o.rotations (omega arith) h.0,
+        inside_wider (length o.merges) (length (o.merges ++ j.sources)) o.rotations (omega arith) h.0,
         each_more (λ r. get_or r 1 0 + get_or r 2 0 ≤ length (o.merges ++ j.sources)) o.measurements row
-            (inside-wider (length o.merges) (length (o.merges ++ j.sources)) o.measurements (omega arith) h.1) (omega arith),
+            (inside_wider (length o.merges) (length (o.merges ++ j.sources)) o.measurements (omega arith) h.1) (omega arith),
       );
     }
-step-appended {w = w} recorded = appended-none 0 0 w.written
-step-appended {w = w} detected = appended-none 0 0 w.written
-step-appended {w = w} expected = appended-none 0 0 w.written
-step-appended {w = w} branched = appended-none 0 0 w.written
+step_appended {w = w} recorded = appended_none 0 0 w.written
+step_appended {w = w} detected = appended_none 0 0 w.written
+step_appended {w = w} expected = appended_none 0 0 w.written
+step_appended {w = w} branched = appended_none 0 0 w.written
 
 -- what a run writes
-pub run-appended : {limit : ℕ} {w u : Walk} {is : List Instruction} → Run limit w is u → Appended (length is) w.written u.written
-run-appended (done w) = appended-refl w.written
-run-appended (more s r) = appended_then (step-appended s) (run-appended r)
+pub run_appended : {limit : ℕ} {w u : Walk} {is : List Instruction} → Run limit w is u → Appended (length is) w.written u.written
+run_appended (done w) = appended_refl w.written
+run_appended (more s r) = appended_then (step_appended s) (run_appended r)
 
 -- ---- the laws of a run
 
 -- outputs only grow, in a step
-pub step-grown : {limit : ℕ} {w v : Walk} {i : Instruction} → Stepped limit w i v → Grown w.written v.written
-step-grown s = (step-appended s).grown
+pub step_grown : {limit : ℕ} {w v : Walk} {i : Instruction} → Stepped limit w i v → Grown w.written v.written
+step_grown s = (step_appended s).grown
 
 -- and in a run
-pub run-grown : {limit : ℕ} {w u : Walk} {is : List Instruction} → Run limit w is u → Grown w.written u.written
-run-grown r = (run-appended r).grown
+pub run_grown : {limit : ℕ} {w u : Walk} {is : List Instruction} → Run limit w is u → Grown w.written u.written
+run_grown r = (run_appended r).grown
 
 -- two words of steps a record
-pub step-steps : {limit : ℕ} {w v : Walk} {i : Instruction} → Stepped limit w i v → length v.written.steps ≡ length w.written.steps + 2
-step-steps s = (step-appended s).steps-more
+pub step_steps : {limit : ℕ} {w v : Walk} {i : Instruction} → Stepped limit w i v → length v.written.steps ≡ length w.written.steps + 2
+step_steps s = (step_appended s).steps_more
 
 -- so many for a run
-pub run-steps : {limit : ℕ} {w u : Walk} {is : List Instruction} → Run limit w is u → length u.written.steps ≡ length w.written.steps + 2 * length is
-run-steps r = (run-appended r).steps-more
+pub run_steps : {limit : ℕ} {w u : Walk} {is : List Instruction} → Run limit w is u → length u.written.steps ≡ length w.written.steps + 2 * length is
+run_steps r = (run_appended r).steps_more
 
 -- at most one row a record
-pub run-rows : {limit : ℕ} {w u : Walk} {is : List Instruction} → Run limit w is u → rowCount u.written ≤ rowCount w.written + length is
-run-rows r = (run-appended r).rows_more
+pub run_rows : {limit : ℕ} {w u : Walk} {is : List Instruction} → Run limit w is u → row_count u.written ≤ row_count w.written + length is
+run_rows r = (run_appended r).rows_more
 
 -- rotation rows keep their 21 words
-pub run-rotations : {limit : ℕ} {w u : Walk} {is : List Instruction} → Run limit w is u → AllOf 21 w.written.rotations → AllOf 21 u.written.rotations
-run-rotations r = (run-appended r).rotations-wide
+pub run_rotations : {limit : ℕ} {w u : Walk} {is : List Instruction} → Run limit w is u → AllOf 21 w.written.rotations → AllOf 21 u.written.rotations
+run_rotations r = (run_appended r).rotations_wide
 
 -- measurement rows their 19
-pub run-measurements : {limit : ℕ} {w u : Walk} {is : List Instruction} → Run limit w is u → AllOf 19 w.written.measurements → AllOf 19 u.written.measurements
-run-measurements r = (run-appended r).measurements-wide
+pub run_measurements : {limit : ℕ} {w u : Walk} {is : List Instruction} → Run limit w is u → AllOf 19 w.written.measurements → AllOf 19 u.written.measurements
+run_measurements r = (run_appended r).measurements_wide
 
 -- rows keep their parts of the merge list
 pub run_inside : {limit : ℕ} {w u : Walk} {is : List Instruction} → Run limit w is u → Inside w.written → Inside u.written
-run_inside r = (run-appended r).rows_inside
+run_inside r = (run_appended r).rows_inside
 
 -- at the start no row is written
-pub start-wide : (k n : ℕ) → AllOf n (start k).written.rotations × AllOf n (start k).written.measurements
+pub start_wide : (k n : ℕ) → AllOf n (start k).written.rotations × AllOf n (start k).written.measurements
 unfolding start
-start-wide k n = (λ i h. absurd (omega arith), λ i h. absurd (omega arith))
+start_wide k n = (λ i h. absurd (omega arith), λ i h. absurd (omega arith))
 
 -- so none runs past the merge list
-pub start-inside : (k : ℕ) → Inside (start k).written
+pub start_inside : (k : ℕ) → Inside (start k).written
 unfolding start
-start-inside k = (λ i h. absurd (omega arith), λ i h. absurd (omega arith))
+start_inside k = (λ i h. absurd (omega arith), λ i h. absurd (omega arith))
 
 -- ---- a walk that stops
 
@@ -318,87 +318,87 @@ abbrev FromWalk : ℕ → Type 0
 FromWalk m = (11 ≤ m) × (m ≤ 20)
 
 -- a test of the walk
-number-refuse : (t : Bool) (n : ℕ) (rest : Answer Walk) (m : ℕ) → FromWalk n → refuse t n rest ≡ refused m → (rest ≡ refused m → FromWalk m) → FromWalk m
-number-refuse true n rest m h e later = let same : n ≡ m = cc in (omega (arith, h.0), omega (arith, h.1))
-number-refuse false n rest m h e later = later e
+number_refuse : (t : Bool) (n : ℕ) (rest : Answer Walk) (m : ℕ) → FromWalk n → refuse t n rest ≡ refused m → (rest ≡ refused m → FromWalk m) → FromWalk m
+number_refuse true n rest m h e later = let same : n ≡ m = cc in (omega (arith, h.0), omega (arith, h.1))
+number_refuse false n rest m h e later = later e
 
 -- a choice between two answers
-number-cond : {A : Type 0} (t : Bool) (x y : Answer A) (m : ℕ) → cond t x y ≡ refused m → (x ≡ refused m → FromWalk m) → (y ≡ refused m → FromWalk m) → FromWalk m
-number-cond true x y m e p q = p e
-number-cond false x y m e p q = q e
+number_cond : {A : Type 0} (t : Bool) (x y : Answer A) (m : ℕ) → cond t x y ≡ refused m → (x ≡ refused m → FromWalk m) → (y ≡ refused m → FromWalk m) → FromWalk m
+number_cond true x y m e p q = p e
+number_cond false x y m e p q = q e
 
 -- an answer that is gone on with
-number-when : {A : Type 0} (x : Answer A) (f : A → Walk) (m : ℕ) → whenGiven x (λ a. given (f a)) ≡ refused m → (x ≡ refused m → FromWalk m) → FromWalk m
-number-when (given a) f m e p = let z : ◌≡◌ {A = ℕ} 0 1 = cc in absurd (omega arith)
-number-when (refused n) f m e p = let same : n ≡ m = cc in p (ap refused same)
+number_when : {A : Type 0} (x : Answer A) (f : A → Walk) (m : ℕ) → when_given x (λ a. given (f a)) ≡ refused m → (x ≡ refused m → FromWalk m) → FromWalk m
+number_when (given a) f m e p = let z : ◌≡◌ {A = ℕ} 0 1 = cc in absurd (omega arith)
+number_when (refused n) f m e p = let same : n ≡ m = cc in p (ap refused same)
 
 -- 14, where a dimension is too large
-number-dimension : {A : Type 0} (d : Option ℕ) (f : ℕ → Answer A) (m : ℕ) → ofDimension d f ≡ refused m → ((n : ℕ) → f n ≡ refused m → FromWalk m) → FromWalk m
-number-dimension none f m e p = let same : 14 ≡ m = cc in (omega arith, omega arith)
-number-dimension (some n) f m e p = p n e
+number_dimension : {A : Type 0} (d : Option ℕ) (f : ℕ → Answer A) (m : ℕ) → of_dimension d f ≡ refused m → ((n : ℕ) → f n ≡ refused m → FromWalk m) → FromWalk m
+number_dimension none f m e p = let same : 14 ≡ m = cc in (omega arith, omega arith)
+number_dimension (some n) f m e p = p n e
 
 -- a value is no refusal
-number-given : {A : Type 0} {a : A} {m : ℕ} → given a ≡ refused m → FromWalk m
-number-given e = let z : ◌≡◌ {A = ℕ} 0 1 = cc in absurd (omega arith)
+number_given : {A : Type 0} {a : A} {m : ℕ} → given a ≡ refused m → FromWalk m
+number_given e = let z : ◌≡◌ {A = ℕ} 0 1 = cc in absurd (omega arith)
 
 -- a number of the walk
 number_is : {A : Type 0} (n : ℕ) {m : ℕ} → FromWalk n → ◌≡◌ {A = Answer A} (refused n) (refused m) → FromWalk m
 number_is n {m} h e = let same : n ≡ m = cc in (omega (arith, h.0), omega (arith, h.1))
 
 -- 11 and 14
-number-rotate : (limit : ℕ) (w : Walk) (width x z phase : ℕ) (angle sine cosine : Float) (m : ℕ)
+number_rotate : (limit : ℕ) (w : Walk) (width x z phase : ℕ) (angle sine cosine : Float) (m : ℕ)
     → rotate limit w width x z phase angle sine cosine ≡ refused m → FromWalk m
 unfolding rotate
-number-rotate limit w width x z phase angle sine cosine m e =
-    number-refuse (not (eqb width (length w.order))) 11 _ m (omega arith) e λ f.
-    number-cond (eqb (length w.order) 0) _ _ m f number-given λ g.
-    number-refuse (is_none (dimension limit (length (join_of x z w).members))) 14 _ m (omega arith) g λ h.
-    number-when (rotation limit (localAction x z phase w (join_of x z w)) phase angle sine cosine) (λ k. rotationStep w (join_of x z w) k) m h λ i.
-    number-dimension (dimension limit (length (join_of x z w).members)) _ m i λ n. number-given
+number_rotate limit w width x z phase angle sine cosine m e =
+    number_refuse (not (eqb width (length w.order))) 11 _ m (omega arith) e λ f.
+    number_cond (eqb (length w.order) 0) _ _ m f number_given λ g.
+    number_refuse (is_none (dimension limit (length (join_of x z w).members))) 14 _ m (omega arith) g λ h.
+    number_when (rotation limit (local_action x z phase w (join_of x z w)) phase angle sine cosine) (λ k. rotation_step w (join_of x z w) k) m h λ i.
+    number_dimension (dimension limit (length (join_of x z w).members)) _ m i λ n. number_given
 
 -- 14 and 17 to 20, the kernel's
-number-measurement : (limit : ℕ) (a : ActivePauliAction) (phase pivot m : ℕ) → measurement limit a phase pivot ≡ refused m → FromWalk m
-number-measurement limit a phase pivot m e =
-    number-dimension (dimension limit a.nqubits) _ m e λ n f.
-    number-cond (not (eqb a.xmask 0)) _ _ m f
-    (λ g. number-cond (eqb (bitAt a.xmask pivot) 0) _ _ m g (number_is 17 (omega arith)) number-given)
-    λ g. number-cond (not (eqb a.zmask 0)) _ _ m g
-    (λ h. number-cond (eqb (bitAt a.zmask pivot) 0) _ _ m h (number_is 18 (omega arith))
-    λ i. number-cond (imaginary phase) _ _ m i (number_is 19 (omega arith)) number-given)
+number_measurement : (limit : ℕ) (a : ActivePauliAction) (phase pivot m : ℕ) → measurement limit a phase pivot ≡ refused m → FromWalk m
+number_measurement limit a phase pivot m e =
+    number_dimension (dimension limit a.nqubits) _ m e λ n f.
+    number_cond (not (eqb a.xmask 0)) _ _ m f
+    (λ g. number_cond (eqb (bit_at a.xmask pivot) 0) _ _ m g (number_is 17 (omega arith)) number_given)
+    λ g. number_cond (not (eqb a.zmask 0)) _ _ m g
+    (λ h. number_cond (eqb (bit_at a.zmask pivot) 0) _ _ m h (number_is 18 (omega arith))
+    λ i. number_cond (imaginary phase) _ _ m i (number_is 19 (omega arith)) number_given)
     (number_is 20 (omega arith))
 
 -- 12 to 16, and those
-number-measure : (limit : ℕ) (w : Walk) (width x z phase pivot m : ℕ) → measure limit w width x z phase pivot ≡ refused m → FromWalk m
+number_measure : (limit : ℕ) (w : Walk) (width x z phase pivot m : ℕ) → measure limit w width x z phase pivot ≡ refused m → FromWalk m
 unfolding measure
-number-measure limit w width x z phase pivot m e =
-    number-refuse (not (eqb width (length w.order))) 12 _ m (omega arith) e λ f.
-    number-refuse (eqb (length w.order) 0) 13 _ m (omega arith) f λ g.
-    number-refuse (is_none (dimension limit (length (join_of x z w).members))) 14 _ m (omega arith) g λ h.
-    number-refuse (not (ltb pivot (length w.order))) 15 _ m (omega arith) h λ i.
-    number-refuse (not (isIn (get_or w.order pivot 0) (join_of x z w).members)) 16 _ m (omega arith) i λ j.
-    number-when _ (λ k. measurementStep w (join_of x z w) pivot k) m j
-    (number-measurement limit (localAction x z phase w (join_of x z w)) phase (place_of (get_or w.order pivot 0) (join_of x z w).members) m)
+number_measure limit w width x z phase pivot m e =
+    number_refuse (not (eqb width (length w.order))) 12 _ m (omega arith) e λ f.
+    number_refuse (eqb (length w.order) 0) 13 _ m (omega arith) f λ g.
+    number_refuse (is_none (dimension limit (length (join_of x z w).members))) 14 _ m (omega arith) g λ h.
+    number_refuse (not (ltb pivot (length w.order))) 15 _ m (omega arith) h λ i.
+    number_refuse (not (is_in (get_or w.order pivot 0) (join_of x z w).members)) 16 _ m (omega arith) i λ j.
+    number_when _ (λ k. measurement_step w (join_of x z w) pivot k) m j
+    (number_measurement limit (local_action x z phase w (join_of x z w)) phase (place_of (get_or w.order pivot 0) (join_of x z w).members) m)
 
 -- of any instruction
 number_step : (limit : ℕ) (w : Walk) (i : Instruction) (m : ℕ) → step limit w i ≡ refused m → FromWalk m
 unfolding step
-number_step limit w (Rotation width x z phase angle sine cosine) m e = number-rotate limit w width x z phase angle sine cosine m e
-number_step limit w Promotion m e = number-given e
-number_step limit w (Measurement width x z phase pivot) m e = number-measure limit w width x z phase pivot m e
-number_step limit w RecordMeasurement m e = number-given e
-number_step limit w RecordDetector m e = number-given e
-number_step limit w Expectation m e = number-given e
-number_step limit w DormantBranch m e = number-given e
+number_step limit w (Rotation width x z phase angle sine cosine) m e = number_rotate limit w width x z phase angle sine cosine m e
+number_step limit w Promotion m e = number_given e
+number_step limit w (Measurement width x z phase pivot) m e = number_measure limit w width x z phase pivot m e
+number_step limit w RecordMeasurement m e = number_given e
+number_step limit w RecordDetector m e = number_given e
+number_step limit w Expectation m e = number_given e
+number_step limit w DormantBranch m e = number_given e
 
 -- a walk stops at one of its records, with a number from 11 to 20
-pub stopped-index : (limit index : ℕ) (w : Walk) (is : List Instruction) (n j : ℕ) → walkFrom limit index w is ≡ stopped n j
+pub stopped_index : (limit index : ℕ) (w : Walk) (is : List Instruction) (n j : ℕ) → walk_from limit index w is ≡ stopped n j
     → (index ≤ j) × (j < index + length is) × (11 ≤ n) × (n ≤ 20)
-unfolding walkFrom
-stopped-index limit index w [] n j e = let z : ◌≡◌ {A = ℕ} 0 1 = cc in absurd (omega arith)
-stopped-index limit index w (i ∷ is) n j e = go (step limit w i) refl e (λ v. stopped-index limit (suc index) v is n j)
+unfolding walk_from
+stopped_index limit index w [] n j e = let z : ◌≡◌ {A = ℕ} 0 1 = cc in absurd (omega arith)
+stopped_index limit index w (i ∷ is) n j e = go (step limit w i) refl e (λ v. stopped_index limit (suc index) v is n j)
   where
-    go : (x : Answer Walk) → step limit w i ≡ x → onward x index (λ v. walkFrom limit (suc index) v is) ≡ stopped n j
-        → ((v : Walk) → walkFrom limit (suc index) v is ≡ stopped n j → (suc index ≤ j) × (j < suc index + length is) × (11 ≤ n) × (n ≤ 20))
+    go : (x : Answer Walk) → step limit w i ≡ x → onward x index (λ v. walk_from limit (suc index) v is) ≡ stopped n j
+        → ((v : Walk) → walk_from limit (suc index) v is ≡ stopped n j → (suc index ≤ j) × (j < suc index + length is) × (11 ≤ n) × (n ≤ 20))
         → (index ≤ j) × (j < index + suc (length is)) × (11 ≤ n) × (n ≤ 20)
     go (given v) p f later = let r = later v f in (omega (arith, r.0), omega (arith, r.1), r.2, r.3)
     go (refused m) p f later =
@@ -410,58 +410,58 @@ stopped-index limit index w (i ∷ is) n j e = go (step limit w i) refl e (λ v.
 
 -- a refusal's index is 0 or a record's
 abbrev Indexed : List ℕ → Result → Type 0
-Indexed ws r = (n j : ℕ) → r ≡ refusedAt n j → (j ≡ 0) ⊎ (j < length ws / 8)
+Indexed ws r = (n j : ℕ) → r ≡ refused_at n j → (j ≡ 0) ⊎ (j < length ws / 8)
 
 -- 0, for head and buffers
-indexed-first : (ws : List ℕ) (number : ℕ) → Indexed ws (refusedAt number 0)
-indexed-first ws number n j e = inl (let z : 0 ≡ j = cc in omega arith)
+indexed_first : (ws : List ℕ) (number : ℕ) → Indexed ws (refused_at number 0)
+indexed_first ws number n j e = inl (let z : 0 ≡ j = cc in omega arith)
 
 -- a plan is no refusal
-indexed-plan : (ws : List ℕ) (p : Plan) → Indexed ws (planned p)
-indexed-plan ws p n j e = let z : ◌≡◌ {A = ℕ} 0 1 = cc in absurd (omega arith)
+indexed_plan : (ws : List ℕ) (p : Plan) → Indexed ws (planned p)
+indexed_plan ws p n j e = let z : ◌≡◌ {A = ℕ} 0 1 = cc in absurd (omega arith)
 
 -- a test of head and buffers
-indexed-refuse : (ws : List ℕ) (t : Bool) (number : ℕ) (rest : Result) → Indexed ws rest → Indexed ws (refuseAll t number rest)
-indexed-refuse ws true number rest r = indexed-first ws number
-indexed-refuse ws false number rest r = r
+indexed_refuse : (ws : List ℕ) (t : Bool) (number : ℕ) (rest : Result) → Indexed ws rest → Indexed ws (refuse_all t number rest)
+indexed_refuse ws true number rest r = indexed_first ws number
+indexed_refuse ws false number rest r = r
 
 -- the walk's
-indexed-walk : (limit initial densePeak : ℕ) (ws : List ℕ) → Indexed ws (afterWalk initial densePeak (walkFrom limit 0 (start initial) (instructionsOf ws)))
-indexed-walk limit initial densePeak ws = go (walkFrom limit 0 (start initial) (instructionsOf ws)) refl
+indexed_walk : (limit initial dense_peak : ℕ) (ws : List ℕ) → Indexed ws (after_walk initial dense_peak (walk_from limit 0 (start initial) (instructions_of ws)))
+indexed_walk limit initial dense_peak ws = go (walk_from limit 0 (start initial) (instructions_of ws)) refl
   where
-    go : (x : Walked) → walkFrom limit 0 (start initial) (instructionsOf ws) ≡ x → Indexed ws (afterWalk initial densePeak x)
-    go (finished w) f n j e = indexed-plan ws _ n j e
+    go : (x : Walked) → walk_from limit 0 (start initial) (instructions_of ws) ≡ x → Indexed ws (after_walk initial dense_peak x)
+    go (finished w) f n j e = indexed_plan ws _ n j e
     go (stopped m i) f n j e =
-        let s = stopped-index limit 0 (start initial) (instructionsOf ws) m i f in
-        let l = instructions-length ws in
+        let s = stopped_index limit 0 (start initial) (instructions_of ws) m i f in
+        let l = instructions_length ws in
         let same : i ≡ j = cc in inr (omega (arith, s.1))
 
 -- the record pass's, and then the walk's
-indexed-pass : (limit initial densePeak : ℕ) (ws : List ℕ) → Indexed ws (afterPass limit initial densePeak ws (recordPass initial ws))
-indexed-pass limit initial densePeak ws = go (recordPass initial ws) refl
+indexed_pass : (limit initial dense_peak : ℕ) (ws : List ℕ) → Indexed ws (after_pass limit initial dense_peak ws (record_pass initial ws))
+indexed_pass limit initial dense_peak ws = go (record_pass initial ws) refl
   where
-    go : (x : Checked) → recordPass initial ws ≡ x → Indexed ws (afterPass limit initial densePeak ws x)
-    go Passed f n j e = indexed-walk limit initial densePeak ws n j e
+    go : (x : Checked) → record_pass initial ws ≡ x → Indexed ws (after_pass limit initial dense_peak ws x)
+    go Passed f n j e = indexed_walk limit initial dense_peak ws n j e
     go (Refused m i) f n j e =
-        let s = refused-in initial ws m i f in
+        let s = refused_in initial ws m i f in
         let same : i ≡ j = cc in inr (omega (arith, s.index_below))
 
 -- planning refuses with the index 0 or a record's
-pub refused-index : (h : Head) (ws : List ℕ) (l : Lengths) (n j : ℕ) → plan_of h ws l ≡ refusedAt n j → (j ≡ 0) ⊎ (j < length ws / 8)
-unfolding plan_of planRead
-refused-index h ws l = indexed-refuse ws (ceilingRefused h) 24 _ (go (maxDimension h))
+pub refused_index : (h : Head) (ws : List ℕ) (l : Lengths) (n j : ℕ) → plan_of h ws l ≡ refused_at n j → (j ≡ 0) ⊎ (j < length ws / 8)
+unfolding plan_of plan_read
+refused_index h ws l = indexed_refuse ws (ceiling_refused h) 24 _ (go (max_dimension h))
   where
-    read : (densePeak : ℕ) → Indexed ws (planRead h ws l densePeak)
-    read densePeak =
-        indexed-refuse ws (wordsRefused ws) 2 _
-        (indexed-refuse ws (buffersRefused (length ws / 8) l) 3 _
-        (indexed-refuse ws (ltb 512 h.initial_k) 4 _
-        (indexed-pass h.ceiling h.initial_k densePeak ws)))
+    read : (dense_peak : ℕ) → Indexed ws (plan_read h ws l dense_peak)
+    read dense_peak =
+        indexed_refuse ws (words_refused ws) 2 _
+        (indexed_refuse ws (buffers_refused (length ws / 8) l) 3 _
+        (indexed_refuse ws (ltb 512 h.initial_k) 4 _
+        (indexed_pass h.ceiling h.initial_k dense_peak ws)))
 
     either : (t : Bool) (p : Plan) (r : Result) → Indexed ws r → Indexed ws (cond t (planned p) r)
-    either true p r i = indexed-plan ws p
+    either true p r i = indexed_plan ws p
     either false p r i = i
 
-    go : (d : Option ℕ) → Indexed ws (forDensePeak h ws l d)
-    go none = indexed-first ws 1
-    go (some densePeak) = either (unread h) _ _ (read densePeak)
+    go : (d : Option ℕ) → Indexed ws (for_dense_peak h ws l d)
+    go none = indexed_first ws 1
+    go (some dense_peak) = either (unread h) _ _ (read dense_peak)

@@ -5,7 +5,7 @@ use native.Mathlib.Omega.{arith}
 use mathlib.Core.List.{List, [], ◌∷◌, ◌++◌}
 use lib.ListN.{length, get_or, set, replicate}
 use Rattle.records.specs.declared.Instruction.{Instruction}
-use Rattle.definition.specs.Walk.{Walk, join_of, start, noStep, ignoredStep, promotionStep, rotationStep, measurementStep}
+use Rattle.definition.specs.Walk.{Walk, join_of, start, no_step, ignored_step, promotion_step, rotation_step, measurement_step}
 use Rattle.definition.proofs.Steps.{Stepped, ignored, rotated, promoted, measured, recorded, detected, expected, branched, Run, done, more}
 
 -- every entry is below n, and so is the default past the end
@@ -25,35 +25,35 @@ module _ (n : ℕ) (least : 1 < n) where
   set_below (suc c) v (x ∷ xs) all h zero = all zero
   set_below (suc c) v (x ∷ xs) all h (suc i) = set_below c v xs (λ j. all (suc j)) h i
 
-  one-more-below : (xs : List ℕ) → Below n xs → Below n (xs ++ (1 ∷ []))
-  one-more-below [] all zero = least
-  one-more-below [] all (suc i) = omega arith
-  one-more-below (x ∷ xs) all zero = all zero
-  one-more-below (x ∷ xs) all (suc i) = one-more-below xs (λ j. all (suc j)) i
+  one_more_below : (xs : List ℕ) → Below n xs → Below n (xs ++ (1 ∷ []))
+  one_more_below [] all zero = least
+  one_more_below [] all (suc i) = omega arith
+  one_more_below (x ∷ xs) all zero = all zero
+  one_more_below (x ∷ xs) all (suc i) = one_more_below xs (λ j. all (suc j)) i
 
-  join-below : (x z : ℕ) (w : Walk) → length (join_of x z w).members < n → Below n w.longest → Below n (join_of x z w).longest
+  join_below : (x z : ℕ) (w : Walk) → length (join_of x z w).members < n → Below n w.longest → Below n (join_of x z w).longest
   unfolding join_of
-  join-below x z w h all =
+  join_below x z w h all =
       let j = join_of x z w in
       let old = all j.component in
       set_below j.component (max (get_or w.longest j.component 0) (length j.members)) w.longest all (omega arith)
 
   module _ {limit : ℕ} (bound : min limit 64 ≤ n) where
-    step-below : {w v : Walk} {i : Instruction} → Stepped limit w i v → Below n w.longest → Below n v.longest
-    unfolding noStep ignoredStep promotionStep rotationStep measurementStep
-    step-below (ignored x z phase angle sine cosine empty) all = all
-    step-below {w = w} (rotated width x z phase angle sine cosine k wide active small fits made) all = join-below x z w (omega arith) all
-    step-below {w = w} promoted all = one-more-below w.longest all
-    step-below {w = w} (measured width x z phase pivot k wide active small fits below inside made) all = join-below x z w (omega arith) all
-    step-below recorded all = all
-    step-below detected all = all
-    step-below expected all = all
-    step-below branched all = all
+    step_below : {w v : Walk} {i : Instruction} → Stepped limit w i v → Below n w.longest → Below n v.longest
+    unfolding no_step ignored_step promotion_step rotation_step measurement_step
+    step_below (ignored x z phase angle sine cosine empty) all = all
+    step_below {w = w} (rotated width x z phase angle sine cosine k wide active small fits made) all = join_below x z w (omega arith) all
+    step_below {w = w} promoted all = one_more_below w.longest all
+    step_below {w = w} (measured width x z phase pivot k wide active small fits below inside made) all = join_below x z w (omega arith) all
+    step_below recorded all = all
+    step_below detected all = all
+    step_below expected all = all
+    step_below branched all = all
 
     run-below : {w u : Walk} {is : List Instruction} → Run limit w is u → Below n w.longest → Below n u.longest
     run-below (done w) all = all
-    run-below (more s rest) all = run-below rest (step-below s all)
+    run-below (more s rest) all = run-below rest (step_below s all)
 
-    pub reached-longest : (k : ℕ) {is : List Instruction} {u : Walk} → Run limit (start k) is u → (i : ℕ) → get_or u.longest i 0 < n
+    pub reached_longest : (k : ℕ) {is : List Instruction} {u : Walk} → Run limit (start k) is u → (i : ℕ) → get_or u.longest i 0 < n
     unfolding start
-    reached-longest k run = run-below run (ones_below k)
+    reached_longest k run = run-below run (ones_below k)

@@ -16,35 +16,35 @@ use lib.Ieee.Scale.{round_same}
 use lib.Ieee.Back.{round_whole}
 use borrow.Author.Tests.{leb-false}
 use Rattle.kernels.specs.Bits.{exp2}
-use Rattle.definition.specs.Components.{size_of, twoF, costFrom, joiningCost}
-use Rattle.definition.specs.WholeWorks.{wholeCostFrom, wholeJoiningCost}
+use Rattle.definition.specs.Components.{size_of, two_f, cost_from, joining_cost}
+use Rattle.definition.specs.WholeWorks.{whole_cost_from, whole_joining_cost}
 
 -- the float of a whole number
-abbrev pub wholeFloat : ℕ → Float
-wholeFloat n = of_int binary64 (pos n)
+abbrev pub whole_float : ℕ → Float
+whole_float n = of_int binary64 (pos n)
 
 -- which has its value up to 2 ^ 53
-whole-value : (n : ℕ) → n ≤ 2 ^ 53 → HasValue (wholeFloat n) false n 1
+whole_value : (n : ℕ) → n ≤ 2 ^ 53 → HasValue (whole_float n) false n 1
 unfolding of_int
-whole-value n h = round_whole binary64 false n h
+whole_value n h = round_whole binary64 false n h
 
 -- so has what is equal to it
-pub value_of : (x : Float) (n : ℕ) → x ≡ wholeFloat n → n ≤ 2 ^ 53 → HasValue x false n 1
-value_of x n e h = subst (λ (y : Float). HasValue y false n 1) (sym e) (whole-value n h)
+pub value_of : (x : Float) (n : ℕ) → x ≡ whole_float n → n ≤ 2 ^ 53 → HasValue x false n 1
+value_of x n e h = subst (λ (y : Float). HasValue y false n 1) (sym e) (whole_value n h)
 
 no : true ≡ false → ⊥
 no e = let z : ◌≡◌ {A = ℕ} 0 1 = cc in absurd (omega arith)
 
 -- a sum
-pub add-whole : (x y : Float) (a b : ℕ) → HasValue x false a 1 → HasValue y false b 1 → add binary64 x y ≡ wholeFloat (a + b)
+pub add_whole : (x y : Float) (a b : ℕ) → HasValue x false a 1 → HasValue y false b 1 → add binary64 x y ≡ whole_float (a + b)
 unfolding add sum of_int
-add-whole nan y a b h k = absurd h
-add-whole (inf s) y a b h k = absurd h
-add-whole (fin s m e) nan a b h k = absurd k
-add-whole (fin s m e) (inf t) a b h k = absurd k
-add-whole (fin true m e) (fin t n d) a b h k = absurd (no h.0)
-add-whole (fin false m e) (fin true n d) a b h k = absurd (no k.0)
-add-whole (fin false m e) (fin false n d) a b h k =
+add_whole nan y a b h k = absurd h
+add_whole (inf s) y a b h k = absurd h
+add_whole (fin s m e) nan a b h k = absurd k
+add_whole (fin s m e) (inf t) a b h k = absurd k
+add_whole (fin true m e) (fin t n d) a b h k = absurd (no h.0)
+add_whole (fin false m e) (fin true n d) a b h k = absurd (no k.0)
+add_whole (fin false m e) (fin false n d) a b h k =
     round_same binary64 false (m * up e * down d + n * up d * down e) (down e * down d) (a + b) 1 (mul-pos (down_pos e) (down_pos d)) (omega arith)
     (scaled (m * up e) (n * up d) (down e) (down d) a b h.1 k.1)
   where
@@ -54,12 +54,12 @@ add-whole (fin false m e) (fin false n d) a b h k =
         let q = ap (λ (n : ℕ). n * e) k in omega arith
 
 -- twice
-pub double-whole : (x : Float) (a : ℕ) → HasValue x false a 1 → mul binary64 twoF x ≡ wholeFloat (2 * a)
+pub double_whole : (x : Float) (a : ℕ) → HasValue x false a 1 → mul binary64 two_f x ≡ whole_float (2 * a)
 unfolding mul of_int
-double-whole nan a h = absurd h
-double-whole (inf s) a h = absurd h
-double-whole (fin true m e) a h = absurd (no h.0)
-double-whole (fin false m e) a h =
+double_whole nan a h = absurd h
+double_whole (inf s) a h = absurd h
+double_whole (fin true m e) a h = absurd (no h.0)
+double_whole (fin false m e) a h =
     round_same binary64 false (1 * up (pos 1) * (m * up e)) (down (pos 1) * down e) (2 * a) 1 (mul-pos (omega arith) (down_pos e)) (omega arith)
     (scaled (m * up e) (down e) h.1)
   where
@@ -67,30 +67,30 @@ double-whole (fin false m e) a h =
     scaled x e k = omega arith
 
 -- a power of two
-pub power-value : (k : ℕ) → 2 ^ k ≤ 2 ^ 53 → HasValue (exp2 k) false (2 ^ k) 1
-power-value k h = go (leb k 1023) refl
+pub power_value : (k : ℕ) → 2 ^ k ≤ 2 ^ 53 → HasValue (exp2 k) false (2 ^ k) 1
+power_value k h = go (leb k 1023) refl
   where
     go : (t : Bool) → leb k 1023 ≡ t → HasValue (cond t (fin false 1 (pos k)) (inf false)) false (2 ^ k) 1
     go true e = (refl, omega arith)
     go false e = let l = leb-false k 1023 e in let p = pow_mono {i = 54} {j = k} (omega arith) in absurd (omega arith)
 
 -- and twice it
-pub double-value : (k : ℕ) → 2 * 2 ^ k ≤ 2 ^ 53 → HasValue (mul binary64 twoF (exp2 k)) false (2 * 2 ^ k) 1
-double-value k h = value_of (mul binary64 twoF (exp2 k)) (2 * 2 ^ k) (double-whole (exp2 k) (2 ^ k) (power-value k (omega arith))) h
+pub double_value : (k : ℕ) → 2 * 2 ^ k ≤ 2 ^ 53 → HasValue (mul binary64 two_f (exp2 k)) false (2 * 2 ^ k) 1
+double_value k h = value_of (mul binary64 two_f (exp2 k)) (2 * 2 ^ k) (double_whole (exp2 k) (2 ^ k) (power_value k (omega arith))) h
 
 -- a joining cost, from any sum so far
-cost-whole : (cs : List (List ℕ)) (size n : ℕ) (so_far : Float) (ss : List ℕ) → so_far ≡ wholeFloat n → n + wholeCostFrom cs size ss ≤ 2 ^ 53
-    → costFrom cs size so_far ss ≡ wholeFloat (n + wholeCostFrom cs size ss)
-cost-whole cs size n so_far [] e h = e ∙ ap wholeFloat (omega arith)
-cost-whole cs size n so_far (s ∷ ss) e h =
+cost_whole : (cs : List (List ℕ)) (size n : ℕ) (so_far : Float) (ss : List ℕ) → so_far ≡ whole_float n → n + whole_cost_from cs size ss ≤ 2 ^ 53
+    → cost_from cs size so_far ss ≡ whole_float (n + whole_cost_from cs size ss)
+cost_whole cs size n so_far [] e h = e ∙ ap whole_float (omega arith)
+cost_whole cs size n so_far (s ∷ ss) e h =
     let grown = size + size_of cs s in
-    cost-whole cs grown (n + 2 * 2 ^ grown) (add binary64 so_far (mul binary64 twoF (exp2 grown))) ss
-    (add-whole so_far (mul binary64 twoF (exp2 grown)) n (2 * 2 ^ grown) (value_of so_far n e (omega arith)) (double-value grown (omega arith)))
+    cost_whole cs grown (n + 2 * 2 ^ grown) (add binary64 so_far (mul binary64 two_f (exp2 grown))) ss
+    (add_whole so_far (mul binary64 two_f (exp2 grown)) n (2 * 2 ^ grown) (value_of so_far n e (omega arith)) (double_value grown (omega arith)))
     (omega arith)
-    ∙ ap wholeFloat (omega arith)
+    ∙ ap whole_float (omega arith)
 
-pub joining-whole : (cs : List (List ℕ)) (ss : List ℕ) → wholeJoiningCost cs ss ≤ 2 ^ 53 → joiningCost cs ss ≡ wholeFloat (wholeJoiningCost cs ss)
-unfolding joiningCost wholeJoiningCost of_int
-joining-whole cs [] h = refl
-joining-whole cs (t ∷ others) h =
-    cost-whole cs (size_of cs t) 0 (fin false 0 (pos 0)) others refl (omega arith) ∙ ap wholeFloat (zero-add (wholeCostFrom cs (size_of cs t) others))
+pub joining_whole : (cs : List (List ℕ)) (ss : List ℕ) → whole_joining_cost cs ss ≤ 2 ^ 53 → joining_cost cs ss ≡ whole_float (whole_joining_cost cs ss)
+unfolding joining_cost whole_joining_cost of_int
+joining_whole cs [] h = refl
+joining_whole cs (t ∷ others) h =
+    cost_whole cs (size_of cs t) 0 (fin false 0 (pos 0)) others refl (omega arith) ∙ ap whole_float (zero-add (whole_cost_from cs (size_of cs t) others))

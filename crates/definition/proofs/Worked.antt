@@ -9,14 +9,14 @@ use native.Mathlib.Omega.{arith}
 use lib.ListN.{length, get_or, take}
 use lib.IntN.{pos}
 use lib.Ieee.{fin}
-use Rattle.records.specs.Record.{instructionsOf}
+use Rattle.records.specs.Record.{instructions_of}
 use Rattle.records.specs.declared.Head.{Head}
 use Rattle.records.specs.declared.Instruction.{Instruction}
-use Rattle.definition.specs.Lists.{numbersFrom}
-use Rattle.definition.specs.WholeWorks.{withQuotient}
+use Rattle.definition.specs.Lists.{numbers_from}
+use Rattle.definition.specs.WholeWorks.{with_quotient}
 use Rattle.definition.specs.Plan.{Plan, planned, plan_of}
 use Rattle.definition.specs.Circuits.{enough}
-use Rattle.definition.specs.Connectivity.{ActiveOrder, activeStart, activeAfter, withLinks, advanced, setsOf, liveAt, momentsOf, moments, replayJoined, replayAfter, longestOf, measurementAt, Connected, replayMembers, rotationAt}
+use Rattle.definition.specs.Connectivity.{ActiveOrder, active_start, active_after, with_links, advanced, sets_of, live_at, moments_of, moments, replay_joined, replay_after, longest_of, measurement_at, Connected, replay_members, rotation_at}
 use Rattle.definition.proofs.Connected.{connected}
 
 -- 1.0 as bits
@@ -44,31 +44,31 @@ words =
 abbrev phases : List ℕ
 phases = one ∷ 0 ∷ 0xBFF0_0000_0000_0000 ∷ 0x8000_0000_0000_0000 ∷ 0 ∷ []
 
-abbrev diagonalTail : List ℕ
-diagonalTail = phases ++ (1 ∷ 0 ∷ 0 ∷ 0 ∷ 0 ∷ 0 ∷ one ∷ 0 ∷ 0 ∷ 0 ∷ [])
+abbrev diagonal_tail : List ℕ
+diagonal_tail = phases ++ (1 ∷ 0 ∷ 0 ∷ 0 ∷ 0 ∷ 0 ∷ one ∷ 0 ∷ 0 ∷ 0 ∷ [])
 
-abbrev pairTail : List ℕ
-pairTail = phases ++ (0 ∷ 1 ∷ 0 ∷ 1 ∷ 2 ∷ 0 ∷ one ∷ 0 ∷ 0 ∷ 0 ∷ [])
+abbrev pair_tail : List ℕ
+pair_tail = phases ++ (0 ∷ 1 ∷ 0 ∷ 1 ∷ 2 ∷ 0 ∷ one ∷ 0 ∷ 0 ∷ 0 ∷ [])
 
 abbrev plan : Plan
 plan = record {
   selected = false;
-  initialComponents = 4;
-  componentCount = 5;
-  denseWork = fin false 7 (pos 4);
-  componentWork = fin false 131 (pos 1);
-  densePeak = 256;
+  initial_components = 4;
+  component_count = 5;
+  dense_work = fin false 7 (pos 4);
+  component_work = fin false 131 (pos 1);
+  dense_peak = 256;
   peak = 10;
   allocated = 18;
-  wholeWorks = withQuotient 112 262 0 112;
+  whole_works = with_quotient 112 262 0 112;
   steps = 2 ∷ 0 ∷ 2 ∷ 1 ∷ 0 ∷ 0 ∷ 4 ∷ 0 ∷ 3 ∷ 0 ∷ 0 ∷ 0 ∷ 0 ∷ 0 ∷ 2 ∷ 2 ∷ 0 ∷ 0 ∷ 2 ∷ 3 ∷ [];
   merges = 0 ∷ 1 ∷ 0 ∷ 2 ∷ 0 ∷ 3 ∷ 4 ∷ 0 ∷ [];
   sizes = 3 ∷ 1 ∷ 1 ∷ 2 ∷ 1 ∷ [];
   rotations =
-      (0 ∷ 0 ∷ 2 ∷ 2 ∷ 3 ∷ 0 ∷ pairTail)
-      ++ ((0 ∷ 2 ∷ 2 ∷ 3 ∷ 0 ∷ 6 ∷ diagonalTail)
-      ++ ((3 ∷ 5 ∷ 2 ∷ 2 ∷ 3 ∷ 0 ∷ pairTail)
-      ++ (0 ∷ 7 ∷ 1 ∷ 2 ∷ 0 ∷ 0 ∷ diagonalTail)));
+      (0 ∷ 0 ∷ 2 ∷ 2 ∷ 3 ∷ 0 ∷ pair_tail)
+      ++ ((0 ∷ 2 ∷ 2 ∷ 3 ∷ 0 ∷ 6 ∷ diagonal_tail)
+      ++ ((3 ∷ 5 ∷ 2 ∷ 2 ∷ 3 ∷ 0 ∷ pair_tail)
+      ++ (0 ∷ 7 ∷ 1 ∷ 2 ∷ 0 ∷ 0 ∷ diagonal_tail)));
   promotions = 4 ∷ [];
   measurements = 0 ∷ 4 ∷ 1 ∷ 3 ∷ 2 ∷ 0 ∷ (phases ++ (1 ∷ 0 ∷ 0 ∷ 0 ∷ 4 ∷ 0x3FE6_A09E_667F_3BCD ∷ 0x8000_0000_0000_0000 ∷ 0 ∷ []));
   groups = 2 ∷ 0 ∷ 2 ∷ 2 ∷ 3 ∷ 4 ∷ [];
@@ -78,33 +78,33 @@ pub premise : plan_of head words (enough 10) ≡ planned plan
 unfolding plan_of
 premise = refl
 
-pub worked : (m : ℕ) → m ≤ length (instructionsOf words) → Connected 4 (instructionsOf words) plan m
+pub worked : (m : ℕ) → m ≤ length (instructions_of words) → Connected 4 (instructions_of words) plan m
 worked m h = connected head words (enough 10) plan premise (omega arith) refl m h
 
 -- ---- the figures, after 0 to 10 records
 
 abbrev instructions : List Instruction
-instructions = instructionsOf words
+instructions = instructions_of words
 
-abbrev activeAt : ℕ → ActiveOrder
-activeAt m = activeAfter (activeStart 4) (take m instructions)
+abbrev active_at : ℕ → ActiveOrder
+active_at m = active_after (active_start 4) (take m instructions)
 
 -- the active order, from the instructions
 orders :
-    map (λ m. (activeAt m).order) (numbersFrom 0 11)
+    map (λ m. (active_at m).order) (numbers_from 0 11)
     ≡ (0 ∷ 1 ∷ 2 ∷ 3 ∷ []) ∷ (0 ∷ 1 ∷ 2 ∷ 3 ∷ []) ∷ (0 ∷ 1 ∷ 2 ∷ 3 ∷ []) ∷ (0 ∷ 1 ∷ 2 ∷ 3 ∷ []) ∷ (0 ∷ 2 ∷ 3 ∷ []) ∷ (0 ∷ 2 ∷ 3 ∷ 4 ∷ [])
     ∷ (0 ∷ 2 ∷ 3 ∷ 4 ∷ []) ∷ (0 ∷ 2 ∷ 3 ∷ 4 ∷ []) ∷ (0 ∷ 2 ∷ 3 ∷ 4 ∷ []) ∷ (0 ∷ 2 ∷ 3 ∷ 4 ∷ []) ∷ (0 ∷ 2 ∷ 3 ∷ 4 ∷ []) ∷ []
-unfolding instructionsOf withLinks advanced
+unfolding instructions_of with_links advanced
 orders = refl
 
 -- the supports, oldest first: coordinate 1, measured since, links 0 and 2
-links : (activeAt 10).links ≡ (0 ∷ 1 ∷ []) ∷ (1 ∷ 2 ∷ []) ∷ (1 ∷ []) ∷ (3 ∷ 4 ∷ []) ∷ [] ∷ []
-unfolding instructionsOf withLinks advanced
+links : (active_at 10).links ≡ (0 ∷ 1 ∷ []) ∷ (1 ∷ 2 ∷ []) ∷ (1 ∷ []) ∷ (3 ∷ 4 ∷ []) ∷ [] ∷ []
+unfolding instructions_of with_links advanced
 links = refl
 
 -- the bins 0 to 4, from the plan's words
 replay :
-    map (λ m. map (replayAfter plan m) (numbersFrom 0 5)) (0 ∷ 1 ∷ 2 ∷ 4 ∷ 5 ∷ 8 ∷ 10 ∷ [])
+    map (λ m. map (replay_after plan m) (numbers_from 0 5)) (0 ∷ 1 ∷ 2 ∷ 4 ∷ 5 ∷ 8 ∷ 10 ∷ [])
     ≡ ((0 ∷ []) ∷ (1 ∷ []) ∷ (2 ∷ []) ∷ (3 ∷ []) ∷ [] ∷ [])
     ∷ ((0 ∷ 1 ∷ []) ∷ [] ∷ (2 ∷ []) ∷ (3 ∷ []) ∷ [] ∷ [])
     ∷ ((0 ∷ 1 ∷ 2 ∷ []) ∷ [] ∷ [] ∷ (3 ∷ []) ∷ [] ∷ [])
@@ -113,45 +113,45 @@ replay :
     ∷ ((0 ∷ 2 ∷ []) ∷ [] ∷ [] ∷ (3 ∷ 4 ∷ []) ∷ [] ∷ [])
     ∷ ((0 ∷ 2 ∷ []) ∷ [] ∷ [] ∷ (3 ∷ 4 ∷ []) ∷ [] ∷ [])
     ∷ []
-unfolding replayAfter
+unfolding replay_after
 replay = refl
 
 -- how many members there are, and none beyond the five components: the four at the start and the promoted one
-counts : map (λ m. length (replayMembers plan (replayAfter plan m))) (numbersFrom 0 11) ≡ 4 ∷ 4 ∷ 4 ∷ 4 ∷ 3 ∷ 4 ∷ 4 ∷ 4 ∷ 4 ∷ 4 ∷ 4 ∷ []
-unfolding replayAfter
+counts : map (λ m. length (replay_members plan (replay_after plan m))) (numbers_from 0 11) ≡ 4 ∷ 4 ∷ 4 ∷ 4 ∷ 3 ∷ 4 ∷ 4 ∷ 4 ∷ 4 ∷ 4 ∷ 4 ∷ []
+unfolding replay_after
 counts = refl
 
-beyond : map (replayAfter plan 10) (5 ∷ 6 ∷ []) ≡ [] ∷ [] ∷ []
-unfolding replayAfter
+beyond : map (replay_after plan 10) (5 ∷ 6 ∷ []) ≡ [] ∷ [] ∷ []
+unfolding replay_after
 beyond = refl
 
 -- just after the join of record 7, x = 28 at width 4: the bin of component 3 and the row's local width 2, x = 3, z = 0
-rotated : replayJoined plan 7 (replayAfter plan 7) (get_or (rotationAt plan 7) 0 0) ≡ 3 ∷ 4 ∷ []
-unfolding replayJoined replayAfter
+rotated : replay_joined plan 7 (replay_after plan 7) (get_or (rotation_at plan 7) 0 0) ≡ 3 ∷ 4 ∷ []
+unfolding replay_joined replay_after
 rotated = refl
 
-rotated-row : take 6 (rotationAt plan 7) ≡ 3 ∷ 5 ∷ 2 ∷ 2 ∷ 3 ∷ 0 ∷ []
-rotated-row = refl
+rotated_row : take 6 (rotation_at plan 7) ≡ 3 ∷ 5 ∷ 2 ∷ 2 ∷ 3 ∷ 0 ∷ []
+rotated_row = refl
 
 -- the sets that the chains gather, from the instructions: the same at the end
-sets : setsOf (activeAt 10) ≡ (0 ∷ 2 ∷ []) ∷ [] ∷ [] ∷ (3 ∷ 4 ∷ []) ∷ [] ∷ []
-unfolding instructionsOf withLinks advanced setsOf
+sets : sets_of (active_at 10) ≡ (0 ∷ 2 ∷ []) ∷ [] ∷ [] ∷ (3 ∷ 4 ∷ []) ∷ [] ∷ []
+unfolding instructions_of with_links advanced sets_of
 sets = refl
 
 -- just after the measurement's join: the bin still holds coordinate 1, at the local pivot 1; local width 3, x = 2, z = 0
-measured : replayJoined plan 3 (replayAfter plan 3) (get_or (measurementAt plan 3) 0 0) ≡ 0 ∷ 1 ∷ 2 ∷ []
-unfolding replayJoined replayAfter
+measured : replay_joined plan 3 (replay_after plan 3) (get_or (measurement_at plan 3) 0 0) ≡ 0 ∷ 1 ∷ 2 ∷ []
+unfolding replay_joined replay_after
 measured = refl
 
-measured-row : take 6 (measurementAt plan 3) ++ (get_or (measurementAt plan 3) 11 0 ∷ []) ≡ 0 ∷ 4 ∷ 1 ∷ 3 ∷ 2 ∷ 0 ∷ 1 ∷ []
-measured-row = refl
+measured_row : take 6 (measurement_at plan 3) ++ (get_or (measurement_at plan 3) 11 0 ∷ []) ≡ 0 ∷ 4 ∷ 1 ∷ 3 ∷ 2 ∷ 0 ∷ 1 ∷ []
+measured_row = refl
 
 -- live dimensions at the start, after three joins and the removal, the promotion, and two joins
-lives : map liveAt (activeStart 4 ∷ moments (activeStart 4) instructions) ≡ 8 ∷ 8 ∷ 10 ∷ 10 ∷ 6 ∷ 8 ∷ 8 ∷ 8 ∷ []
-unfolding instructionsOf momentsOf liveAt
+lives : map live_at (active_start 4 ∷ moments (active_start 4) instructions) ≡ 8 ∷ 8 ∷ 10 ∷ 10 ∷ 6 ∷ 8 ∷ 8 ∷ 8 ∷ []
+unfolding instructions_of moments_of live_at
 lives = refl
 
 -- the greatest lengths of the bins; 2^3 + 2 + 2 + 2^2 + 2 is 18
-longests : map (longestOf plan 10) (numbersFrom 0 5) ≡ 3 ∷ 1 ∷ 1 ∷ 2 ∷ 1 ∷ []
-unfolding replayAfter
+longests : map (longest_of plan 10) (numbers_from 0 5) ≡ 3 ∷ 1 ∷ 1 ∷ 2 ∷ 1 ∷ []
+unfolding replay_after
 longests = refl

@@ -3,29 +3,29 @@
 -- seven outputs.
 use Rattle.std.specs.Prelude.{ℕ, ◌+◌, ◌*◌, ◌/◌, List, [], ◌∷◌, length}
 use Rattle.std.specs.Float.Ieee.{to_bits}
-use Rattle.definition.specs.WholeWorks.{wholeWords}
-use Rattle.definition.specs.Walk.{flagWord, bitsWord}
-use Rattle.definition.specs.Plan.{Lengths, Plan, Result, planned, refusedAt, plan_of}
+use Rattle.definition.specs.WholeWorks.{whole_words}
+use Rattle.definition.specs.Walk.{flag_word, bits_word}
+use Rattle.definition.specs.Plan.{Lengths, Plan, Result, planned, refused_at, plan_of}
 
 pub record Circuit : Type 0 where
   pub initial : ℕ
-  pub maxK : ℕ
+  pub max_k : ℕ
   pub expectations : ℕ
   pub words : List ℕ
   pub answer : List (List ℕ)
 
 -- the eight scalar fields and the whole works as words
-unfoldable pub scalarWords : Plan → List ℕ
+unfoldable pub scalar_words : Plan → List ℕ
 unfolding to_bits
-scalarWords p =
-    flagWord p.selected ∷ p.initialComponents ∷ p.componentCount ∷ bitsWord p.denseWork ∷ bitsWord p.componentWork
-    ∷ p.densePeak ∷ p.peak ∷ p.allocated ∷ wholeWords p.wholeWorks
+scalar_words p =
+    flag_word p.selected ∷ p.initial_components ∷ p.component_count ∷ bits_word p.dense_work ∷ bits_word p.component_work
+    ∷ p.dense_peak ∷ p.peak ∷ p.allocated ∷ whole_words p.whole_works
 
-unfoldable pub answerWords : Result → List (List ℕ)
-unfolding scalarWords
-answerWords (planned p) =
-    scalarWords p ∷ p.steps ∷ p.merges ∷ p.sizes ∷ p.rotations ∷ p.promotions ∷ p.measurements ∷ p.groups ∷ []
-answerWords (refusedAt number index) = (number ∷ index ∷ []) ∷ []
+unfoldable pub answer_words : Result → List (List ℕ)
+unfolding scalar_words
+answer_words (planned p) =
+    scalar_words p ∷ p.steps ∷ p.merges ∷ p.sizes ∷ p.rotations ∷ p.promotions ∷ p.measurements ∷ p.groups ∷ []
+answer_words (refused_at number index) = (number ∷ index ∷ []) ∷ []
 
 -- buffers that are just long enough for n records
 abbrev pub enough : ℕ → Lengths
@@ -33,17 +33,17 @@ enough n = record { steps = 2 * n; merges = n + 512; sizes = 512; rotations = 21
 
 -- what planning gives for a circuit; 02, CR 4: "01's circuits have ceiling 62"
 unfoldable pub answer_of : Circuit → List (List ℕ)
-unfolding plan_of answerWords
+unfolding plan_of answer_words
 answer_of c =
-    answerWords
-    (plan_of (record { initial_k = c.initial; max_k = c.maxK; nexpvals = c.expectations; ceiling = 62 }) c.words (enough (length c.words / 8)))
+    answer_words
+    (plan_of (record { initial_k = c.initial; max_k = c.max_k; nexpvals = c.expectations; ceiling = 62 }) c.words (enough (length c.words / 8)))
 
 unfoldable pub circuits : List Circuit
 circuits =
     -- max_k 62: 1.
     record {
       initial = 0;
-      maxK = 62;
+      max_k = 62;
       expectations = 0;
       words = [];
       answer =
@@ -52,7 +52,7 @@ circuits =
     -- max_k 61, nexpvals 1: dense peak 2^61, unselected.
     ∷ record {
       initial = 0;
-      maxK = 61;
+      max_k = 61;
       expectations = 1;
       words = [];
       answer =
@@ -68,7 +68,7 @@ circuits =
     -- initial 0, rotation of width 0: IgnoredGlobalPhase, works 1 and 0.
     ∷ record {
       initial = 0;
-      maxK = 8;
+      max_k = 8;
       expectations = 0;
       words = (0 ∷ 0 ∷ 0 ∷ 0 ∷ 0 ∷ 0 ∷ 0 ∷ 0x3FF0000000000000 ∷ []);
       answer =
@@ -84,7 +84,7 @@ circuits =
     -- initial 3, rotation x = 5: sources 0, 2; local x = 3, pair bit 1, pair count 2; works 8 and 44, peak 6, allocated 8.
     ∷ record {
       initial = 3;
-      maxK = 8;
+      max_k = 8;
       expectations = 0;
       words = (0 ∷ 3 ∷ 5 ∷ 0 ∷ 0 ∷ 0 ∷ 0 ∷ 0x3FF0000000000000 ∷ []);
       answer =
@@ -100,7 +100,7 @@ circuits =
     -- then measurement z = 6, pivot 2: sources 0, 1; members 0, 2, 1; local z = 6, pivot 1, z-without-pivot 4, out 4; works 24 and 108, peak 8, allocated 12.
     ∷ record {
       initial = 3;
-      maxK = 8;
+      max_k = 8;
       expectations = 0;
       words = (0 ∷ 3 ∷ 5 ∷ 0 ∷ 0 ∷ 0 ∷ 0 ∷ 0x3FF0000000000000 ∷ 4 ∷ 3 ∷ 0 ∷ 6 ∷ 0 ∷ 2 ∷ 0 ∷ 0 ∷ []);
       answer =
@@ -116,7 +116,7 @@ circuits =
     -- initial 2, measurement with masks 0, pivot 0: 20.
     ∷ record {
       initial = 2;
-      maxK = 8;
+      max_k = 8;
       expectations = 0;
       words = (4 ∷ 2 ∷ 0 ∷ 0 ∷ 0 ∷ 0 ∷ 0 ∷ 0 ∷ []);
       answer =
@@ -125,7 +125,7 @@ circuits =
     -- initial 2, measurement with masks 0, pivot 1: 16.
     ∷ record {
       initial = 2;
-      maxK = 8;
+      max_k = 8;
       expectations = 0;
       words = (4 ∷ 2 ∷ 0 ∷ 0 ∷ 0 ∷ 1 ∷ 0 ∷ 0 ∷ []);
       answer =
@@ -134,7 +134,7 @@ circuits =
     -- initial 1, rotation x = 2: local masks 0, diagonal.
     ∷ record {
       initial = 1;
-      maxK = 8;
+      max_k = 8;
       expectations = 0;
       words = (0 ∷ 1 ∷ 2 ∷ 0 ∷ 0 ∷ 0 ∷ 0 ∷ 0x3FF0000000000000 ∷ []);
       answer =
@@ -150,7 +150,7 @@ circuits =
     -- initial 1, measurement z = 1, phase 1: 19.
     ∷ record {
       initial = 1;
-      maxK = 8;
+      max_k = 8;
       expectations = 0;
       words = (4 ∷ 1 ∷ 0 ∷ 1 ∷ 1 ∷ 0 ∷ 0 ∷ 0 ∷ []);
       answer =
@@ -159,7 +159,7 @@ circuits =
     -- initial 1, measurement z = 1, phase 2: phase bit 1.
     ∷ record {
       initial = 1;
-      maxK = 8;
+      max_k = 8;
       expectations = 0;
       words = (4 ∷ 1 ∷ 0 ∷ 1 ∷ 2 ∷ 0 ∷ 0 ∷ 0 ∷ []);
       answer =
@@ -175,7 +175,7 @@ circuits =
     -- initial 62, rotation x = 2^62 - 1: 14.
     ∷ record {
       initial = 62;
-      maxK = 8;
+      max_k = 8;
       expectations = 0;
       words = (0 ∷ 62 ∷ 0x3FFFFFFFFFFFFFFF ∷ 0 ∷ 0 ∷ 0 ∷ 0 ∷ 0x3FF0000000000000 ∷ []);
       answer =
@@ -184,7 +184,7 @@ circuits =
     -- initial 62, measurement x = 2^62 - 1: 14.
     ∷ record {
       initial = 62;
-      maxK = 8;
+      max_k = 8;
       expectations = 0;
       words = (4 ∷ 62 ∷ 0x3FFFFFFFFFFFFFFF ∷ 0 ∷ 0 ∷ 0 ∷ 0 ∷ 0 ∷ []);
       answer =
@@ -193,7 +193,7 @@ circuits =
     -- initial 61, rotation x = 2^61 - 1: pair bit 60.
     ∷ record {
       initial = 61;
-      maxK = 8;
+      max_k = 8;
       expectations = 0;
       words = (0 ∷ 61 ∷ 0x1FFFFFFFFFFFFFFF ∷ 0 ∷ 0 ∷ 0 ∷ 0 ∷ 0x3FF0000000000000 ∷ []);
       answer =
@@ -209,7 +209,7 @@ circuits =
     -- further: a large work before a join of four; the joining costs 8, 16 and 32 count otherwise one by one than as a sum
     ∷ record {
       initial = 58;
-      maxK = 8;
+      max_k = 8;
       expectations = 0;
       words = (0 ∷ 58 ∷ 0x3FFFFFFFFFFFFF ∷ 0 ∷ 0 ∷ 0 ∷ 0 ∷ 0x3FF0000000000000 ∷ 0 ∷ 58 ∷ 0x3C0000000000000 ∷ 0 ∷ 0 ∷ 0 ∷ 0 ∷ 0x3FF0000000000000 ∷ []);
       answer =
@@ -225,7 +225,7 @@ circuits =
     -- further: members 0, 2, 1 with x on coordinate 1 and z on coordinate 2
     ∷ record {
       initial = 3;
-      maxK = 8;
+      max_k = 8;
       expectations = 0;
       words = (0 ∷ 3 ∷ 5 ∷ 0 ∷ 0 ∷ 0 ∷ 0 ∷ 0x3FF0000000000000 ∷ 0 ∷ 3 ∷ 2 ∷ 4 ∷ 1 ∷ 0 ∷ 0 ∷ 0x3FF0000000000000 ∷ []);
       answer =
@@ -241,7 +241,7 @@ circuits =
     -- further: six kinds in one program, a promotion joined, an expectation with unread words, and a component emptied
     ∷ record {
       initial = 2;
-      maxK = 8;
+      max_k = 8;
       expectations = 0;
       words = (0 ∷ 2 ∷ 1 ∷ 2 ∷ 1 ∷ 0x3FE0000000000000 ∷ 0x3FDEAEE8744B05F0 ∷ 0x3FEC1528065B7D50 ∷ 1 ∷ 0 ∷ 0 ∷ 0 ∷ 0 ∷ 0 ∷ 0 ∷ 0 ∷ 2 ∷ 0 ∷ 0 ∷ 0 ∷ 0 ∷ 0 ∷ 0 ∷ 0 ∷ 4 ∷ 3 ∷ 5 ∷ 4 ∷ 0 ∷ 2 ∷ 0 ∷ 0 ∷ 4 ∷ 9 ∷ 9 ∷ 9 ∷ 9 ∷ 9 ∷ 1 ∷ 9 ∷ 3 ∷ 0 ∷ 0 ∷ 0 ∷ 0 ∷ 0 ∷ 0 ∷ 0 ∷ 5 ∷ 0 ∷ 0 ∷ 0 ∷ 0 ∷ 0 ∷ 0 ∷ 0 ∷ 4 ∷ 2 ∷ 0 ∷ 3 ∷ 2 ∷ 1 ∷ 0 ∷ 0 ∷ 4 ∷ 1 ∷ 0 ∷ 1 ∷ 2 ∷ 0 ∷ 0 ∷ 0 ∷ 0 ∷ 0 ∷ 0 ∷ 0 ∷ 0 ∷ 0 ∷ 0 ∷ 0x3FF0000000000000 ∷ []);
       answer =
@@ -257,7 +257,7 @@ circuits =
     -- further: six kinds; a chain through a measured coordinate, bits above the width, and an identity rotation
     ∷ record {
       initial = 4;
-      maxK = 8;
+      max_k = 8;
       expectations = 0;
       words = (0 ∷ 4 ∷ 3 ∷ 0 ∷ 0 ∷ 0 ∷ 0 ∷ 0x3FF0000000000000 ∷ 0 ∷ 4 ∷ 0 ∷ 6 ∷ 0 ∷ 0 ∷ 0 ∷ 0x3FF0000000000000 ∷ 2 ∷ 0 ∷ 0 ∷ 0 ∷ 0 ∷ 0 ∷ 0 ∷ 0 ∷ 4 ∷ 4 ∷ 2 ∷ 0 ∷ 0 ∷ 1 ∷ 0 ∷ 0 ∷ 1 ∷ 0 ∷ 0 ∷ 0 ∷ 0 ∷ 0 ∷ 0 ∷ 0 ∷ 3 ∷ 0 ∷ 0 ∷ 0 ∷ 0 ∷ 0 ∷ 0 ∷ 0 ∷ 4 ∷ 9 ∷ 9 ∷ 9 ∷ 9 ∷ 9 ∷ 1 ∷ 9 ∷ 0 ∷ 4 ∷ 28 ∷ 0 ∷ 0 ∷ 0 ∷ 0 ∷ 0x3FF0000000000000 ∷ 5 ∷ 0 ∷ 0 ∷ 0 ∷ 0 ∷ 0 ∷ 0 ∷ 0 ∷ 0 ∷ 4 ∷ 0 ∷ 0 ∷ 0 ∷ 0 ∷ 0 ∷ 0x3FF0000000000000 ∷ []);
       answer =
@@ -273,7 +273,7 @@ circuits =
     -- further: the target is not the first touched: sources 1, 0
     ∷ record {
       initial = 3;
-      maxK = 8;
+      max_k = 8;
       expectations = 0;
       words = (0 ∷ 3 ∷ 6 ∷ 0 ∷ 0 ∷ 0 ∷ 0 ∷ 0x3FF0000000000000 ∷ 0 ∷ 3 ∷ 3 ∷ 0 ∷ 0 ∷ 0 ∷ 0 ∷ 0x3FF0000000000000 ∷ []);
       answer =
@@ -289,7 +289,7 @@ circuits =
     -- further: width 38 still has whole works: works 2^38 and 44
     ∷ record {
       initial = 38;
-      maxK = 38;
+      max_k = 38;
       expectations = 0;
       words = (0 ∷ 38 ∷ 3 ∷ 0 ∷ 0 ∷ 0 ∷ 0 ∷ 0x3FF0000000000000 ∷ []);
       answer =
@@ -305,7 +305,7 @@ circuits =
     -- further: width 39 at the start is too wide for whole works
     ∷ record {
       initial = 39;
-      maxK = 39;
+      max_k = 39;
       expectations = 0;
       words = (0 ∷ 39 ∷ 3 ∷ 0 ∷ 0 ∷ 0 ∷ 0 ∷ 0x3FF0000000000000 ∷ []);
       answer =
@@ -321,7 +321,7 @@ circuits =
     -- further: width 39 in between is too wide, although the program ends at 38
     ∷ record {
       initial = 38;
-      maxK = 39;
+      max_k = 39;
       expectations = 0;
       words = (1 ∷ 0 ∷ 0 ∷ 0 ∷ 0 ∷ 0 ∷ 0 ∷ 0 ∷ 4 ∷ 39 ∷ 1 ∷ 0 ∷ 0 ∷ 0 ∷ 0 ∷ 0 ∷ 0 ∷ 38 ∷ 3 ∷ 0 ∷ 0 ∷ 0 ∷ 0 ∷ 0x3FF0000000000000 ∷ []);
       answer =
@@ -337,7 +337,7 @@ circuits =
     -- further: two ignored rotations: dense work 2, component work 0, no quotient
     ∷ record {
       initial = 0;
-      maxK = 8;
+      max_k = 8;
       expectations = 0;
       words = (0 ∷ 0 ∷ 0 ∷ 0 ∷ 0 ∷ 0 ∷ 0 ∷ 0x3FF0000000000000 ∷ 0 ∷ 0 ∷ 0 ∷ 0 ∷ 0 ∷ 0 ∷ 0 ∷ 0x3FF0000000000000 ∷ []);
       answer =
@@ -353,7 +353,7 @@ circuits =
     -- further: no records: both works 0, no quotient
     ∷ record {
       initial = 5;
-      maxK = 8;
+      max_k = 8;
       expectations = 0;
       words = [];
       answer =
@@ -369,7 +369,7 @@ circuits =
     -- further: left unread: both works 0 and never too wide, at any initial_k
     ∷ record {
       initial = 18446744073709551615;
-      maxK = 7;
+      max_k = 7;
       expectations = 0;
       words = [];
       answer =
@@ -385,7 +385,7 @@ circuits =
     -- further: a promotion to 38, a rotation there and a measurement: whole works with a quotient
     ∷ record {
       initial = 37;
-      maxK = 38;
+      max_k = 38;
       expectations = 0;
       words = (1 ∷ 0 ∷ 0 ∷ 0 ∷ 0 ∷ 0 ∷ 0 ∷ 0 ∷ 0 ∷ 38 ∷ 0x2000000001 ∷ 0 ∷ 0 ∷ 0 ∷ 0 ∷ 0x3FF0000000000000 ∷ 4 ∷ 38 ∷ 1 ∷ 0 ∷ 0 ∷ 0 ∷ 0 ∷ 0 ∷ []);
       answer =
@@ -401,7 +401,7 @@ circuits =
     -- further: works 26624 and 334: quotient 79, remainder 238
     ∷ record {
       initial = 11;
-      maxK = 12;
+      max_k = 12;
       expectations = 0;
       words = (0 ∷ 11 ∷ 3 ∷ 0 ∷ 0 ∷ 0 ∷ 0 ∷ 0x3FF0000000000000 ∷ 0 ∷ 11 ∷ 0xC ∷ 0 ∷ 0 ∷ 0 ∷ 0 ∷ 0x3FF0000000000000 ∷ 0 ∷ 11 ∷ 0 ∷ 0x18 ∷ 0 ∷ 0 ∷ 0 ∷ 0x3FF0000000000000 ∷ 1 ∷ 0 ∷ 0 ∷ 0 ∷ 0 ∷ 0 ∷ 0 ∷ 0 ∷ 0 ∷ 12 ∷ 0x810 ∷ 0x10 ∷ 3 ∷ 0 ∷ 0 ∷ 0x3FF0000000000000 ∷ 4 ∷ 12 ∷ 0 ∷ 3 ∷ 0 ∷ 1 ∷ 0 ∷ 0 ∷ 4 ∷ 11 ∷ 0 ∷ 1 ∷ 0 ∷ 0 ∷ 0 ∷ 0 ∷ []);
       answer =
@@ -417,7 +417,7 @@ circuits =
     -- further: too wide by the width after the last record alone
     ∷ record {
       initial = 38;
-      maxK = 39;
+      max_k = 39;
       expectations = 0;
       words = (1 ∷ 0 ∷ 0 ∷ 0 ∷ 0 ∷ 0 ∷ 0 ∷ 0 ∷ []);
       answer =
@@ -433,7 +433,7 @@ circuits =
     -- further: too wide by the width at the start alone
     ∷ record {
       initial = 39;
-      maxK = 39;
+      max_k = 39;
       expectations = 0;
       words = (4 ∷ 39 ∷ 1 ∷ 0 ∷ 0 ∷ 0 ∷ 0 ∷ 0 ∷ []);
       answer =

@@ -3,7 +3,7 @@
 use Rattle.std.specs.Prelude.{ℕ, zero, suc, ◌+◌, ◌-◌, ◌*◌, ◌/◌, ◌%◌, ◌^◌, min, List, [], ◌∷◌, ◌++◌, map, false, cond, ltb, eqb, length, get_or, set, take, pos, Float}
 use Rattle.std.specs.Float.{fin, binary64}
 use Rattle.std.specs.Float.Ieee.{add, mul}
-use Rattle.kernels.specs.Bits.{bitAt, exp2}
+use Rattle.kernels.specs.Bits.{bit_at, exp2}
 use Rattle.definition.specs.Lists.{meet, without, place_of, total}
 
 abbrev pub members_of : List (List ℕ) → ℕ → List ℕ
@@ -18,13 +18,13 @@ support x z [] = []
 support x z (c ∷ order) = let rest = support (x / 2) (z / 2) order in cond (eqb (x % 2 + z % 2) 0) rest (c ∷ rest)
 
 -- "if none, the component of the first active coordinate"
-abbrev pub orFirst : List ℕ → List ℕ → List ℕ
-orFirst order [] = take 1 order
-orFirst order (c ∷ s) = c ∷ s
+abbrev pub or_first : List ℕ → List ℕ → List ℕ
+or_first order [] = take 1 order
+or_first order (c ∷ s) = c ∷ s
 
 -- the coordinates whose components an instruction touches
 abbrev pub reached : ℕ → ℕ → List ℕ → List ℕ
-reached x z order = orFirst order (support x z order)
+reached x z order = or_first order (support x z order)
 
 -- "Touched: components of" these coordinates, ascending; n is the number of the first component listed
 abbrev pub meeting : ℕ → List ℕ → List (List ℕ) → List ℕ
@@ -43,9 +43,9 @@ largest cs best [] = best
 largest cs best (c ∷ rest) = largest cs (larger cs best c) rest
 
 -- "Sources: target, then the others ascending"
-unfoldable pub sourcesOf : List (List ℕ) → List ℕ → List ℕ
-sourcesOf cs [] = []
-sourcesOf cs (c ∷ rest) = let target = largest cs c rest in target ∷ without target (c ∷ rest)
+unfoldable pub sources_of : List (List ℕ) → List ℕ → List ℕ
+sources_of cs [] = []
+sources_of cs (c ∷ rest) = let target = largest cs c rest in target ∷ without target (c ∷ rest)
 
 -- "A join appends, in that order, the ordered members of each source but the target to the target's"
 abbrev pub gathered : List (List ℕ) → List ℕ → List ℕ
@@ -62,31 +62,31 @@ joined cs [] = cs
 joined cs (target ∷ others) = set (emptied others cs) target (gathered cs (target ∷ others))
 
 -- "the sum, from 0, of 2·2^(size so far) after each source but the target"
-abbrev pub twoF : Float
-twoF = fin false 1 (pos 1)
+abbrev pub two_f : Float
+two_f = fin false 1 (pos 1)
 
-abbrev pub costFrom : List (List ℕ) → ℕ → Float → List ℕ → Float
-costFrom cs size sum [] = sum
-costFrom cs size sum (s ∷ ss) =
-    let grown = size + size_of cs s in costFrom cs grown (add binary64 sum (mul binary64 twoF (exp2 grown))) ss
+abbrev pub cost_from : List (List ℕ) → ℕ → Float → List ℕ → Float
+cost_from cs size sum [] = sum
+cost_from cs size sum (s ∷ ss) =
+    let grown = size + size_of cs s in cost_from cs grown (add binary64 sum (mul binary64 two_f (exp2 grown))) ss
 
-unfoldable pub joiningCost : List (List ℕ) → List ℕ → Float
-joiningCost cs [] = fin false 0 (pos 0)
-joiningCost cs (target ∷ others) = costFrom cs (size_of cs target) (fin false 0 (pos 0)) others
+unfoldable pub joining_cost : List (List ℕ) → List ℕ → Float
+joining_cost cs [] = fin false 0 (pos 0)
+joining_cost cs (target ∷ others) = cost_from cs (size_of cs target) (fin false 0 (pos 0)) others
 
 -- "Live dimension is the sum of 2^size over live components"
 abbrev pub amplitudes : List ℕ → ℕ
 amplitudes [] = zero
 amplitudes (a ∷ rest) = 2 ^ suc (length rest)
 
-unfoldable pub liveDimension : List (List ℕ) → ℕ
-liveDimension cs = total (map amplitudes cs)
+unfoldable pub live_dimension : List (List ℕ) → ℕ
+live_dimension cs = total (map amplitudes cs)
 
 -- "Allocated is the sum of 2^(longest size ever) over all components, or 2^64 - 1 if that is smaller"
-unfoldable pub allocatedFor : List ℕ → ℕ
-allocatedFor longest = min (2 ^ 64 - 1) (total (map (λ l. 2 ^ l) longest))
+unfoldable pub allocated_for : List ℕ → ℕ
+allocated_for longest = min (2 ^ 64 - 1) (total (map (λ l. 2 ^ l) longest))
 
 -- "Local bit j is the global bit at the position of the component's j-th member"
-abbrev pub localMask : ℕ → List ℕ → List ℕ → ℕ
-localMask mask order [] = zero
-localMask mask order (c ∷ members) = bitAt mask (place_of c order) + 2 * localMask mask order members
+abbrev pub local_mask : ℕ → List ℕ → List ℕ → ℕ
+local_mask mask order [] = zero
+local_mask mask order (c ∷ members) = bit_at mask (place_of c order) + 2 * local_mask mask order members

@@ -2,14 +2,14 @@
 use Rattle.std.specs.Prelude.{ℕ, zero, suc, ◌+◌, List, [], ◌∷◌, ◌++◌, Bool, false, cond, ◌||◌, eqb, take, drop}
 
 -- a is an entry of the list
-abbrev pub isIn : ℕ → List ℕ → Bool
-isIn a [] = false
-isIn a (b ∷ bs) = eqb a b || isIn a bs
+abbrev pub is_in : ℕ → List ℕ → Bool
+is_in a [] = false
+is_in a (b ∷ bs) = eqb a b || is_in a bs
 
 -- the two lists share an entry
 abbrev pub meet : List ℕ → List ℕ → Bool
 meet [] bs = false
-meet (a ∷ rest) bs = isIn a bs || meet rest bs
+meet (a ∷ rest) bs = is_in a bs || meet rest bs
 
 -- the list with every entry a left out
 abbrev pub without : ℕ → List ℕ → List ℕ
@@ -22,13 +22,13 @@ place_of a [] = zero
 place_of a (b ∷ bs) = cond (eqb a b) zero (suc (place_of a bs))
 
 -- the list without its entry at position p
-abbrev pub removeAt : {A : Type 0} → ℕ → List A → List A
-removeAt p xs = take p xs ++ drop (suc p) xs
+abbrev pub remove_at : {A : Type 0} → ℕ → List A → List A
+remove_at p xs = take p xs ++ drop (suc p) xs
 
 -- n numbers in order, from a on
-abbrev pub numbersFrom : ℕ → ℕ → List ℕ
-numbersFrom a zero = []
-numbersFrom a (suc n) = a ∷ numbersFrom (suc a) n
+abbrev pub numbers_from : ℕ → ℕ → List ℕ
+numbers_from a zero = []
+numbers_from a (suc n) = a ∷ numbers_from (suc a) n
 
 abbrev pub total : List ℕ → ℕ
 total [] = zero

@@ -1,19 +1,19 @@
 -- 02, CR 3: what stands in the merge list for a join, "after the target ... all other touched components, each once, strictly ascending, and nothing else". Touched and
 -- target are 01's sentences, section 4, over the active order and the members of each component by number; nothing here says how sources are found.
 use Rattle.std.specs.Prelude.{ℕ, ◌+◌, ◌≤◌, ◌<◌, ◌≡◌, ◌⊎◌, List, [], ◌∷◌, length, get_or, take}
-use Rattle.kernels.specs.Bits.{bitAt}
+use Rattle.kernels.specs.Bits.{bit_at}
 use Rattle.records.specs.declared.Instruction.{Instruction}
 use Rattle.records.specs.declared.Instruction.TheVariants.{Rotation, Promotion, RecordMeasurement, RecordDetector, Measurement, Expectation, DormantBranch}
 use Rattle.definition.specs.Components.{members_of}
 use Rattle.definition.specs.Walk.{Walk, join_of}
 use Rattle.definition.specs.Plan.{Plan}
-use Rattle.definition.specs.Connectivity.{Member, NoRepeats, activeStart, activeAfter, Replayed, kind_at, payloadAt, rotationAt, measurementAt, listedBy, replayAfter}
+use Rattle.definition.specs.Connectivity.{Member, NoRepeats, active_start, active_after, Replayed, kind_at, payload_at, rotation_at, measurement_at, listed_by, replay_after}
 
 -- ---- the sources of a join
 
 -- "the active positions below k set in x or z"; k, "the active width before an instruction", is the length of the order
 abbrev pub SetBelow : ℕ → ℕ → ℕ → ℕ → Type 0
-SetBelow k x z p = (p < k) × ((bitAt x p ≡ 1) ⊎ (bitAt z p ≡ 1))
+SetBelow k x z p = (p < k) × ((bit_at x p ≡ 1) ⊎ (bit_at z p ≡ 1))
 
 -- "Touched: components of the active positions below k set in x or z; if none, the component of the first active coordinate"
 pub data Touched (order : List ℕ) (components : Replayed) (x z c : ℕ) : Type 0 where
@@ -40,7 +40,7 @@ pub record Sources (order : List ℕ) (components : Replayed) (x z : ℕ) (liste
   pub all : (c : ℕ) → Touched order components x z c → Member c listed
   pub once : NoRepeats listed
   pub ascending : Ascending others
-  pub nothing-else : (c : ℕ) → Member c listed → Touched order components x z c
+  pub nothing_else : (c : ℕ) → Member c listed → Touched order components x z c
 
 -- the sources of the join that any masks make in this state of the walk
 abbrev pub JoinsListed : Walk → Type 0
@@ -50,10 +50,10 @@ JoinsListed w = (x z : ℕ) → 0 < length w.order → Sources w.order (members_
 
 -- the row of record m's join: its part lies inside the merge list and is the join's sources, of which the first is the row's component
 pub record Listed (p : Plan) (m kind : ℕ) (row order : List ℕ) (x z : ℕ) : Type 0 where
-  pub kind-is : kind_at p m ≡ kind
+  pub kind_is : kind_at p m ≡ kind
   pub inside : get_or row 1 0 + get_or row 2 0 ≤ length p.merges
-  pub component : get_or row 0 0 ≡ get_or (listedBy p row) 0 0
-  pub sources : Sources order (replayAfter p m) x z (listedBy p row)
+  pub component : get_or row 0 0 ≡ get_or (listed_by p row) 0 0
+  pub sources : Sources order (replay_after p m) x z (listed_by p row)
 
 -- step m names no row that has a part of the merge list
 abbrev pub NoPart : Plan → ℕ → Type 0
@@ -61,8 +61,8 @@ NoPart p m = (kind_at p m ≡ 2 → ⊥) × (kind_at p m ≡ 4 → ⊥)
 
 -- record m, with the order before it: a rotation where coordinates are active and a flag-0 measurement join, and no other record does
 unfoldable pub ListedClaim : Plan → ℕ → List ℕ → Instruction → Type 0
-ListedClaim p m order (Rotation width x z phase angle sine cosine) = ((order ≡ []) × NoPart p m) ⊎ Listed p m 2 (rotationAt p m) order x z
-ListedClaim p m order (Measurement width x z phase pivot) = Listed p m 4 (measurementAt p m) order x z
+ListedClaim p m order (Rotation width x z phase angle sine cosine) = ((order ≡ []) × NoPart p m) ⊎ Listed p m 2 (rotation_at p m) order x z
+ListedClaim p m order (Measurement width x z phase pivot) = Listed p m 4 (measurement_at p m) order x z
 ListedClaim p m order Promotion = NoPart p m
 ListedClaim p m order RecordMeasurement = NoPart p m
 ListedClaim p m order RecordDetector = NoPart p m
@@ -71,10 +71,10 @@ ListedClaim p m order DormantBranch = NoPart p m
 
 -- row i of a kind is that of a record
 abbrev pub RowOf : ℕ → Plan → ℕ → ℕ → Type 0
-RowOf records p kind i = (m : ℕ) × (m < records) × (kind_at p m ≡ kind) × (payloadAt p m ≡ i)
+RowOf records p kind i = (m : ℕ) × (m < records) × (kind_at p m ≡ kind) × (payload_at p m ≡ i)
 
 -- CR 3 of a plan of so many rotation rows and measurement rows: each join's row lists its sources, and each row is that of a join
 pub record SourcesListed (k : ℕ) (is : List Instruction) (p : Plan) (rotations measurements : ℕ) : Type 0 where
-  pub joins : (m : ℕ) → m < length is → ListedClaim p m (activeAfter (activeStart k) (take m is)).order (get_or is m DormantBranch)
+  pub joins : (m : ℕ) → m < length is → ListedClaim p m (active_after (active_start k) (take m is)).order (get_or is m DormantBranch)
   pub rotation : (i : ℕ) → i < rotations → RowOf (length is) p 2 i
   pub measurement : (i : ℕ) → i < measurements → RowOf (length is) p 4 i

@@ -4,7 +4,7 @@ use Rattle.std.specs.Prelude.{ℕ, suc, ◌+◌, ◌*◌, ◌^◌, max, List, []
 use Rattle.std.proofs.Math.Option.{Option, some, none}
 use Rattle.std.specs.Float.{fin, binary64}
 use Rattle.std.specs.Float.Ieee.{add, mul, to_bits}
-use Rattle.kernels.specs.Bits.{oddOnes, highestBit, exp2, dimension}
+use Rattle.kernels.specs.Bits.{odd_ones, highest_bit, exp2, dimension}
 use Rattle.kernels.specs.Active.{Answer, given, refused, action, rotation, measurement}
 use Rattle.kernels.specs.declared.active.Complex64.{Complex64}
 use Rattle.kernels.specs.declared.active.ActivePauliAction.{ActivePauliAction}
@@ -12,9 +12,9 @@ use Rattle.kernels.specs.declared.active.PrecomputedActivePauliRotationKernel.{P
 use Rattle.kernels.specs.declared.active.PrecomputedActivePauliMeasurementKernel.{PrecomputedActivePauliMeasurementKernel}
 use Rattle.records.specs.declared.Instruction.{Instruction}
 use Rattle.records.specs.declared.Instruction.TheVariants.{Rotation, Promotion, RecordMeasurement, RecordDetector, Measurement, Expectation, DormantBranch}
-use Rattle.definition.specs.Lists.{isIn, place_of, removeAt, numbersFrom}
-use Rattle.definition.specs.Components.{touched, sourcesOf, gathered, joined, joiningCost, liveDimension, localMask, twoF}
-use Rattle.definition.specs.WholeWorks.{WholeSums, firstSums, withWorks, wholeJoiningCost}
+use Rattle.definition.specs.Lists.{is_in, place_of, remove_at, numbers_from}
+use Rattle.definition.specs.Components.{touched, sources_of, gathered, joined, joining_cost, live_dimension, local_mask, two_f}
+use Rattle.definition.specs.WholeWorks.{WholeSums, first_sums, with_works, whole_joining_cost}
 
 -- ---- the state
 
@@ -30,8 +30,8 @@ pub record Walk : Type 0 where
   pub order : List ℕ
   pub components : List (List ℕ)
   pub longest : List ℕ
-  pub denseWork : Float
-  pub componentWork : Float
+  pub dense_work : Float
+  pub component_work : Float
   pub whole : WholeSums
   pub peak : ℕ
   pub quantum : ℕ
@@ -39,53 +39,53 @@ pub record Walk : Type 0 where
 
 -- "Start: coordinates 0 to initial_k - 1 in order, each alone in the component of its number"
 unfoldable pub start : ℕ → Walk
-unfolding liveDimension
+unfolding live_dimension
 start k =
-    let alone = map (λ c. c ∷ []) (numbersFrom 0 k) in record {
-      order = numbersFrom 0 k;
+    let alone = map (λ c. c ∷ []) (numbers_from 0 k) in record {
+      order = numbers_from 0 k;
       components = alone;
       longest = replicate k 1;
-      denseWork = fin false 0 (pos 0);
-      componentWork = fin false 0 (pos 0);
-      whole = firstSums (numbersFrom 0 k);
-      peak = liveDimension alone;
+      dense_work = fin false 0 (pos 0);
+      component_work = fin false 0 (pos 0);
+      whole = first_sums (numbers_from 0 k);
+      peak = live_dimension alone;
       quantum = 0;
       written = record { steps = []; merges = []; rotations = []; promotions = []; measurements = [] };
     }
 
 -- ---- rows: "Flags are 0 or 1, floats stand as their bits"
 
-abbrev pub flagWord : Bool → ℕ
-flagWord b = cond b 1 0
+abbrev pub flag_word : Bool → ℕ
+flag_word b = cond b 1 0
 
-abbrev pub bitsWord : Float → ℕ
-bitsWord x = to_bits binary64 x
+abbrev pub bits_word : Float → ℕ
+bits_word x = to_bits binary64 x
 
-abbrev pub pairWords : Complex64 → List ℕ
-pairWords c = bitsWord c.re ∷ bitsWord c.im ∷ []
+abbrev pub pair_words : Complex64 → List ℕ
+pair_words c = bits_word c.re ∷ bits_word c.im ∷ []
 
 -- "component, merge offset, merge count, local width, x and z, even, odd (two each), overlap"
-unfoldable pub rowHead : ℕ → ℕ → ℕ → ActivePauliAction → List ℕ
+unfoldable pub row_head : ℕ → ℕ → ℕ → ActivePauliAction → List ℕ
 unfolding to_bits
-rowHead component offset count a =
+row_head component offset count a =
     component ∷ offset ∷ count ∷ a.nqubits ∷ a.xmask ∷ a.zmask
-    ∷ (pairWords a.even_phase ++ (pairWords a.odd_phase ++ (flagWord a.xz_overlap_odd ∷ [])))
+    ∷ (pair_words a.even_phase ++ (pair_words a.odd_phase ++ (flag_word a.xz_overlap_odd ∷ [])))
 
 -- "diagonal, uniform, flip, pair bit, pair count, angle, cosine, sine, coefficient (two)"
-unfoldable pub rotationRow : ℕ → ℕ → ℕ → PrecomputedActivePauliRotationKernel → List ℕ
-unfolding rowHead
-rotationRow component offset count k =
-    rowHead component offset count k.action
-    ++ (flagWord k.is_diagonal ∷ flagWord k.uniform_imag_pairs ∷ flagWord k.real_pair_flip ∷ k.pair_bit ∷ k.pair_count
-    ∷ bitsWord k.kernel_angle ∷ bitsWord k.cos_kernel_angle ∷ bitsWord k.sin_kernel_angle ∷ pairWords k.minus_even_coefficient)
+unfoldable pub rotation_row : ℕ → ℕ → ℕ → PrecomputedActivePauliRotationKernel → List ℕ
+unfolding row_head
+rotation_row component offset count k =
+    row_head component offset count k.action
+    ++ (flag_word k.is_diagonal ∷ flag_word k.uniform_imag_pairs ∷ flag_word k.real_pair_flip ∷ k.pair_bit ∷ k.pair_count
+    ∷ bits_word k.kernel_angle ∷ bits_word k.cos_kernel_angle ∷ bits_word k.sin_kernel_angle ∷ pair_words k.minus_even_coefficient)
 
 -- "the same first eleven, pivot, diagonal, phase bit, z-without-pivot, out dimension, coefficient (two), deactivated"
-unfoldable pub measurementRow : ℕ → ℕ → ℕ → PrecomputedActivePauliMeasurementKernel → Bool → List ℕ
-unfolding rowHead
-measurementRow component offset count k deactivated =
-    rowHead component offset count k.action
-    ++ (k.pivot ∷ flagWord k.is_diagonal ∷ k.diagonal_phase_bit ∷ k.z_without_pivot ∷ k.out_dim
-    ∷ (pairWords k.nondiagonal_coefficient1_even ++ (flagWord deactivated ∷ [])))
+unfoldable pub measurement_row : ℕ → ℕ → ℕ → PrecomputedActivePauliMeasurementKernel → Bool → List ℕ
+unfolding row_head
+measurement_row component offset count k deactivated =
+    row_head component offset count k.action
+    ++ (k.pivot ∷ flag_word k.is_diagonal ∷ k.diagonal_phase_bit ∷ k.z_without_pivot ∷ k.out_dim
+    ∷ (pair_words k.nondiagonal_coefficient1_even ++ (flag_word deactivated ∷ [])))
 
 -- ---- a join, before a rotation or a flag-0 measurement
 
@@ -101,9 +101,9 @@ pub record Join : Type 0 where
   pub peak : ℕ
 
 unfoldable pub join_of : ℕ → ℕ → Walk → Join
-unfolding touched sourcesOf joined joiningCost wholeJoiningCost liveDimension
+unfolding touched sources_of joined joining_cost whole_joining_cost live_dimension
 join_of x z w =
-    let sources = sourcesOf w.components (touched x z w.order w.components) in
+    let sources = sources_of w.components (touched x z w.order w.components) in
     let component = get_or sources 0 0 in
     let members = gathered w.components sources in
     let components = joined w.components sources in record {
@@ -112,151 +112,151 @@ join_of x z w =
       members = members;
       components = components;
       longest = set w.longest component (max (get_or w.longest component 0) (length members));
-      work = add binary64 w.componentWork (joiningCost w.components sources);
-      cost = wholeJoiningCost w.components sources;
-      peak = max w.peak (liveDimension components);
+      work = add binary64 w.component_work (joining_cost w.components sources);
+      cost = whole_joining_cost w.components sources;
+      peak = max w.peak (live_dimension components);
     }
 
-abbrev pub localAction : ℕ → ℕ → ℕ → Walk → Join → ActivePauliAction
-localAction x z phase w j =
-    action (length j.members) (localMask x w.order j.members) (localMask z w.order j.members) phase
+abbrev pub local_action : ℕ → ℕ → ℕ → Walk → Join → ActivePauliAction
+local_action x z phase w j =
+    action (length j.members) (local_mask x w.order j.members) (local_mask z w.order j.members) phase
 
 -- "a refusal" where the test holds, and else the rest
 abbrev pub refuse : Bool → ℕ → Answer Walk → Answer Walk
 refuse true number rest = refused number
 refuse false number rest = rest
 
-abbrev pub whenGiven : {A : Type 0} → Answer A → (A → Answer Walk) → Answer Walk
-whenGiven (given a) f = f a
-whenGiven (refused number) f = refused number
+abbrev pub when_given : {A : Type 0} → Answer A → (A → Answer Walk) → Answer Walk
+when_given (given a) f = f a
+when_given (refused number) f = refused number
 
 abbrev pub is_none : Option ℕ → Bool
 is_none none = true
 is_none (some n) = false
 
 -- 14: "a component of 62"; 02, CR 4: "a component whose size is the ceiling or more"
-abbrev pub tooLarge : ℕ → Join → Bool
-tooLarge limit j = is_none (dimension limit (length j.members))
+abbrev pub too_large : ℕ → Join → Bool
+too_large limit j = is_none (dimension limit (length j.members))
 
 -- ---- the steps, by kind of instruction
 
 -- "kind (0 None, 1 IgnoredGlobalPhase, 2 Rotation, 3 Promotion, 4 Measurement) and payload"
-abbrev pub withStep : ℕ → ℕ → Written → Written
-withStep kind payload o =
+abbrev pub with_step : ℕ → ℕ → Written → Written
+with_step kind payload o =
     record { steps = o.steps ++ (kind ∷ payload ∷ []); merges = o.merges; rotations = o.rotations; promotions = o.promotions; measurements = o.measurements }
 
 -- the state as it was, with one step more, this dense work, so much of it more as a whole number, and so many quantum instructions
-abbrev pub keptStep : ℕ → Float → ℕ → ℕ → Walk → Walk
-keptStep kind dense more quantum w = record {
+abbrev pub kept_step : ℕ → Float → ℕ → ℕ → Walk → Walk
+kept_step kind dense more quantum w = record {
   order = w.order;
   components = w.components;
   longest = w.longest;
-  componentWork = w.componentWork;
+  component_work = w.component_work;
   peak = w.peak;
-  denseWork = dense;
-  whole = withWorks more 0 w.order w.whole;
+  dense_work = dense;
+  whole = with_works more 0 w.order w.whole;
   quantum = quantum;
-  written = withStep kind 0 w.written;
+  written = with_step kind 0 w.written;
 }
 
-unfoldable pub noStep : Walk → Walk
-noStep w = keptStep 0 w.denseWork 0 w.quantum w
+unfoldable pub no_step : Walk → Walk
+no_step w = kept_step 0 w.dense_work 0 w.quantum w
 
 -- "At k = 0 it becomes IgnoredGlobalPhase and still adds dense work 1"
-unfoldable pub ignoredStep : Walk → Walk
-ignoredStep w = keptStep 1 (add binary64 w.denseWork (exp2 0)) 1 (suc w.quantum) w
+unfoldable pub ignored_step : Walk → Walk
+ignored_step w = kept_step 1 (add binary64 w.dense_work (exp2 0)) 1 (suc w.quantum) w
 
 -- "Promotion: dense + 2·2^k; a new coordinate and component, both next numbers; component + 34"
-unfoldable pub promotionStep : Walk → Walk
-unfolding liveDimension
-promotionStep w =
+unfoldable pub promotion_step : Walk → Walk
+unfolding live_dimension
+promotion_step w =
     let next = length w.components in
     let components = w.components ++ ((next ∷ []) ∷ []) in
     let o = w.written in record {
       order = w.order ++ (next ∷ []);
       components = components;
       longest = w.longest ++ (1 ∷ []);
-      denseWork = add binary64 w.denseWork (mul binary64 twoF (exp2 (length w.order)));
-      componentWork = add binary64 w.componentWork (fin false 17 (pos 1));
-      whole = withWorks (2 * 2 ^ length w.order) 34 (w.order ++ (next ∷ [])) w.whole;
-      peak = max w.peak (liveDimension components);
+      dense_work = add binary64 w.dense_work (mul binary64 two_f (exp2 (length w.order)));
+      component_work = add binary64 w.component_work (fin false 17 (pos 1));
+      whole = with_works (2 * 2 ^ length w.order) 34 (w.order ++ (next ∷ [])) w.whole;
+      peak = max w.peak (live_dimension components);
       quantum = suc w.quantum;
-      written = withStep 3 (length o.promotions)
+      written = with_step 3 (length o.promotions)
           (record { steps = o.steps; merges = o.merges; rotations = o.rotations; promotions = o.promotions ++ (next ∷ []); measurements = o.measurements });
     }
 
 -- "Rotation: dense work + 2^k; join; component work + (2^size + 32)"
-unfoldable pub rotationStep : Walk → Join → PrecomputedActivePauliRotationKernel → Walk
-unfolding rotationRow
-rotationStep w j k =
+unfoldable pub rotation_step : Walk → Join → PrecomputedActivePauliRotationKernel → Walk
+unfolding rotation_row
+rotation_step w j k =
     let o = w.written in
-    let row = rotationRow j.component (length o.merges) (length j.sources) k in record {
+    let row = rotation_row j.component (length o.merges) (length j.sources) k in record {
       order = w.order;
       components = j.components;
       longest = j.longest;
-      denseWork = add binary64 w.denseWork (exp2 (length w.order));
-      componentWork = add binary64 j.work (add binary64 (exp2 (length j.members)) (fin false 1 (pos 5)));
-      whole = withWorks (2 ^ length w.order) (j.cost + (2 ^ length j.members + 32)) w.order w.whole;
+      dense_work = add binary64 w.dense_work (exp2 (length w.order));
+      component_work = add binary64 j.work (add binary64 (exp2 (length j.members)) (fin false 1 (pos 5)));
+      whole = with_works (2 ^ length w.order) (j.cost + (2 ^ length j.members + 32)) w.order w.whole;
       peak = j.peak;
       quantum = suc w.quantum;
-      written = withStep 2 (length o.rotations)
+      written = with_step 2 (length o.rotations)
           (record { steps = o.steps; merges = o.merges ++ j.sources; rotations = o.rotations ++ (row ∷ []); promotions = o.promotions; measurements = o.measurements });
     }
 
 -- "Measurement, flag 0: dense + 2·2^k; join; component + (2·2^size + 32), size before removal; then the coordinate at the pivot's active position
 -- leaves, the order otherwise kept. An emptied component is deactivated"
-unfoldable pub measurementStep : Walk → Join → ℕ → PrecomputedActivePauliMeasurementKernel → Walk
-unfolding measurementRow liveDimension
-measurementStep w j pivot k =
-    let left = removeAt k.pivot j.members in
+unfoldable pub measurement_step : Walk → Join → ℕ → PrecomputedActivePauliMeasurementKernel → Walk
+unfolding measurement_row live_dimension
+measurement_step w j pivot k =
+    let left = remove_at k.pivot j.members in
     let components = set j.components j.component left in
     let o = w.written in
-    let row = measurementRow j.component (length o.merges) (length j.sources) k (eqb (length left) 0) in record {
-      order = removeAt pivot w.order;
+    let row = measurement_row j.component (length o.merges) (length j.sources) k (eqb (length left) 0) in record {
+      order = remove_at pivot w.order;
       components = components;
       longest = j.longest;
-      denseWork = add binary64 w.denseWork (mul binary64 twoF (exp2 (length w.order)));
-      componentWork = add binary64 j.work (add binary64 (mul binary64 twoF (exp2 (length j.members))) (fin false 1 (pos 5)));
-      whole = withWorks (2 * 2 ^ length w.order) (j.cost + (2 * 2 ^ length j.members + 32)) (removeAt pivot w.order) w.whole;
-      peak = max j.peak (liveDimension components);
+      dense_work = add binary64 w.dense_work (mul binary64 two_f (exp2 (length w.order)));
+      component_work = add binary64 j.work (add binary64 (mul binary64 two_f (exp2 (length j.members))) (fin false 1 (pos 5)));
+      whole = with_works (2 * 2 ^ length w.order) (j.cost + (2 * 2 ^ length j.members + 32)) (remove_at pivot w.order) w.whole;
+      peak = max j.peak (live_dimension components);
       quantum = suc w.quantum;
-      written = withStep 4 (length o.measurements)
+      written = with_step 4 (length o.measurements)
           (record { steps = o.steps; merges = o.merges ++ j.sources; rotations = o.rotations; promotions = o.promotions; measurements = o.measurements ++ (row ∷ []) });
     }
 
 -- 11, or the ignored phase, or 14, or the rotation
 unfoldable pub rotate : ℕ → Walk → ℕ → ℕ → ℕ → ℕ → Float → Float → Float → Answer Walk
-unfolding join_of rotationStep ignoredStep dimension oddOnes highestBit
+unfolding join_of rotation_step ignored_step dimension odd_ones highest_bit
 rotate limit w width x z phase angle sine cosine =
     let j = join_of x z w in
     refuse (not (eqb width (length w.order))) 11
-    (cond (eqb (length w.order) 0) (given (ignoredStep w))
-    (refuse (tooLarge limit j) 14
-    (whenGiven (rotation limit (localAction x z phase w j) phase angle sine cosine) λ k. given (rotationStep w j k))))
+    (cond (eqb (length w.order) 0) (given (ignored_step w))
+    (refuse (too_large limit j) 14
+    (when_given (rotation limit (local_action x z phase w j) phase angle sine cosine) λ k. given (rotation_step w j k))))
 
 -- 12, 13, 14, then the pivot's 15 to 20, or the measurement
 unfoldable pub measure : ℕ → Walk → ℕ → ℕ → ℕ → ℕ → ℕ → Answer Walk
-unfolding join_of measurementStep dimension oddOnes
+unfolding join_of measurement_step dimension odd_ones
 measure limit w width x z phase pivot =
     let j = join_of x z w in
     let coordinate = get_or w.order pivot 0 in
     refuse (not (eqb width (length w.order))) 12
     (refuse (eqb (length w.order) 0) 13
-    (refuse (tooLarge limit j) 14
+    (refuse (too_large limit j) 14
     (refuse (not (ltb pivot (length w.order))) 15
-    (refuse (not (isIn coordinate j.members)) 16
-    (whenGiven (measurement limit (localAction x z phase w j) phase (place_of coordinate j.members)) λ k. given (measurementStep w j pivot k))))))
+    (refuse (not (is_in coordinate j.members)) 16
+    (when_given (measurement limit (local_action x z phase w j) phase (place_of coordinate j.members)) λ k. given (measurement_step w j pivot k))))))
 
 -- one instruction. "Flag 1: step None, nothing else"
 unfoldable pub step : ℕ → Walk → Instruction → Answer Walk
-unfolding rotate measure promotionStep noStep
+unfolding rotate measure promotion_step no_step
 step limit w (Rotation width x z phase angle sine cosine) = rotate limit w width x z phase angle sine cosine
-step limit w Promotion = given (promotionStep w)
+step limit w Promotion = given (promotion_step w)
 step limit w (Measurement width x z phase pivot) = measure limit w width x z phase pivot
-step limit w Expectation = given (noStep w)
-step limit w RecordMeasurement = given (noStep w)
-step limit w RecordDetector = given (noStep w)
-step limit w DormantBranch = given (noStep w)
+step limit w Expectation = given (no_step w)
+step limit w RecordMeasurement = given (no_step w)
+step limit w RecordDetector = given (no_step w)
+step limit w DormantBranch = given (no_step w)
 
 -- ---- the whole walk: the last state, or the first refusal with its record's index
 
@@ -268,7 +268,7 @@ abbrev pub onward : Answer Walk → ℕ → (Walk → Walked) → Walked
 onward (given w) index f = f w
 onward (refused number) index f = stopped number index
 
-unfoldable pub walkFrom : ℕ → ℕ → Walk → List Instruction → Walked
+unfoldable pub walk_from : ℕ → ℕ → Walk → List Instruction → Walked
 unfolding step
-walkFrom limit index w [] = finished w
-walkFrom limit index w (i ∷ is) = onward (step limit w i) index (λ v. walkFrom limit (suc index) v is)
+walk_from limit index w [] = finished w
+walk_from limit index w (i ∷ is) = onward (step limit w i) index (λ v. walk_from limit (suc index) v is)

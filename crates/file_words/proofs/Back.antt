@@ -7,20 +7,20 @@ use native.Mathlib.Omega.{arith}
 use lib.ListN.{length, get_or, take, drop, length-drop}
 use lib.Seq.{take-add, take_at, drop-drop, drop-cons, length-take-le}
 use Rattle.definition.specs.Laws.{Words}
-use Rattle.file_words.specs.Words.{bytes_of, word_bytes, number_of, word_at, wordsAt}
+use Rattle.file_words.specs.Words.{bytes_of, word_bytes, number_of, word_at, words_at}
 use Rattle.file_words.specs.Laws.{Bytes}
 
 -- ---- from a word to its bytes and back
 
 -- a number from its bytes, if there are enough of them
-number-back : (n w : ℕ) → w < 256 ^ n → number_of (bytes_of n w) ≡ w
-number-back zero w h = omega arith
-number-back (suc n) w h = let rest = number-back n (w / 256) (omega arith) in omega arith
+number_back : (n w : ℕ) → w < 256 ^ n → number_of (bytes_of n w) ≡ w
+number_back zero w h = omega arith
+number_back (suc n) w h = let rest = number_back n (w / 256) (omega arith) in omega arith
 
 -- word i of the words' bytes
 pub word_back : (ws : List ℕ) (i : ℕ) → Words ws → i < length ws → word_at (word_bytes ws) i ≡ get_or ws i 0
 word_back [] i all h = absurd (omega arith)
-word_back (w ∷ ws) zero all h = ap number_of (take_at (bytes_of 8 w) (word_bytes ws) 8 refl) ∙ number-back 8 w all.0
+word_back (w ∷ ws) zero all h = ap number_of (take_at (bytes_of 8 w) (word_bytes ws) 8 refl) ∙ number_back 8 w all.0
 word_back (w ∷ ws) (suc i) all h =
     let next : 8 * suc i ≡ 8 + 8 * i = omega arith in
     ap (λ (k : ℕ). number_of (take 8 (drop k (word_bytes (w ∷ ws))))) next
@@ -28,7 +28,7 @@ word_back (w ∷ ws) (suc i) all h =
     ∙ word_back ws i all.1 (omega arith)
 
 -- and words from a place on
-pub words_back : (ws : List ℕ) (at n : ℕ) → Words ws → at + n ≤ length ws → wordsAt (word_bytes ws) at n ≡ take n (drop at ws)
+pub words_back : (ws : List ℕ) (at n : ℕ) → Words ws → at + n ≤ length ws → words_at (word_bytes ws) at n ≡ take n (drop at ws)
 words_back ws at zero all h = refl
 words_back ws at (suc n) all h =
     ap₂ (λ (w : ℕ) (l : List ℕ). w ∷ l) (word_back ws at all (omega arith)) (words_back ws (suc at) n all (omega arith))
@@ -47,26 +47,26 @@ bytes_drop (suc n) [] all = tt
 bytes_drop (suc n) (b ∷ bs) all = bytes_drop n bs all.1
 
 -- bytes from their number
-bytes-of-number : (bs : List ℕ) → Bytes bs → bytes_of (length bs) (number_of bs) ≡ bs
-bytes-of-number [] all = refl
-bytes-of-number (b ∷ bs) all =
+bytes_of_number : (bs : List ℕ) → Bytes bs → bytes_of (length bs) (number_of bs) ≡ bs
+bytes_of_number [] all = refl
+bytes_of_number (b ∷ bs) all =
     let small = all.0 in
     let low : (b + 256 * number_of bs) % 256 ≡ b = omega arith in
     let rest : (b + 256 * number_of bs) / 256 ≡ number_of bs = omega arith in
-    ap₂ (λ (c n : ℕ). c ∷ bytes_of (length bs) n) low rest ∙ ap (λ (l : List ℕ). b ∷ l) (bytes-of-number bs all.1)
+    ap₂ (λ (c n : ℕ). c ∷ bytes_of (length bs) n) low rest ∙ ap (λ (l : List ℕ). b ∷ l) (bytes_of_number bs all.1)
 
 -- the file's bytes from its words
-pub file-back : (file : List ℕ) (at n : ℕ) → Bytes file → 8 * (at + n) ≤ length file → word_bytes (wordsAt file at n) ≡ take (8 * n) (drop (8 * at) file)
-file-back file at zero all h = refl
-file-back file at (suc n) all h =
+pub file_back : (file : List ℕ) (at n : ℕ) → Bytes file → 8 * (at + n) ≤ length file → word_bytes (words_at file at n) ≡ take (8 * n) (drop (8 * at) file)
+file_back file at zero all h = refl
+file_back file at (suc n) all h =
     let left = length-drop (8 * at) file in
     let long = length-take-le 8 (drop (8 * at) file) (omega arith) in
     let here = take 8 (drop (8 * at) file) in
     let next : 8 * at + 8 ≡ 8 * suc at = omega arith in
     let more : 8 * suc n ≡ 8 + 8 * n = omega arith in
     ap₂ (λ (a b : List ℕ). a ++ b)
-    (ap (λ (k : ℕ). bytes_of k (number_of here)) (sym long) ∙ bytes-of-number here (bytes_take 8 (drop (8 * at) file) (bytes_drop (8 * at) file all)))
-    (file-back file (suc at) n all (omega arith))
+    (ap (λ (k : ℕ). bytes_of k (number_of here)) (sym long) ∙ bytes_of_number here (bytes_take 8 (drop (8 * at) file) (bytes_drop (8 * at) file all)))
+    (file_back file (suc at) n all (omega arith))
     ∙ ap (λ (l : List ℕ). here ++ take (8 * n) l) (sym (drop-drop 8 (8 * at) file ∙ ap (λ (k : ℕ). drop k file) next))
     ∙ sym (take-add 8 (8 * n) (drop (8 * at) file))
     ∙ ap (λ (k : ℕ). take k (drop (8 * at) file)) (sym more)

@@ -9,9 +9,9 @@ use native.Mathlib.Numerals.{add-one}
 use native.Mathlib.Omega.{arith}
 use lib.ListN.{length, get_or, take, drop, length-append, length-drop, take-append-drop}
 use lib.Seq.{take-add, take-suc, take_at, drop-drop, drop-append-add, length-take-le}
-use Rattle.definition.specs.Lists.{numbersFrom}
+use Rattle.definition.specs.Lists.{numbers_from}
 use Rattle.outputs.specs.Buffers.{patch}
-use Rattle.file_words.specs.Words.{bytes_of, word_bytes, number_of, word_at, wordsAt}
+use Rattle.file_words.specs.Words.{bytes_of, word_bytes, number_of, word_at, words_at}
 
 -- ---- a word that is read
 
@@ -24,12 +24,12 @@ four (a ∷ b ∷ c ∷ []) h = absurd (omega arith)
 four (a ∷ b ∷ c ∷ d ∷ t) h = refl
 
 -- bytes behind four count 2 ^ 32 times as much
-four-more : (t u : List ℕ) → 4 ≤ length t → number_of (take 4 t ++ u) ≡ number_of (take 4 t) + 4294967296 * number_of u
-four-more [] u h = absurd (omega arith)
-four-more (a ∷ []) u h = absurd (omega arith)
-four-more (a ∷ b ∷ []) u h = absurd (omega arith)
-four-more (a ∷ b ∷ c ∷ []) u h = absurd (omega arith)
-four-more (a ∷ b ∷ c ∷ d ∷ t) u h = omega arith
+four_more : (t u : List ℕ) → 4 ≤ length t → number_of (take 4 t ++ u) ≡ number_of (take 4 t) + 4294967296 * number_of u
+four_more [] u h = absurd (omega arith)
+four_more (a ∷ []) u h = absurd (omega arith)
+four_more (a ∷ b ∷ []) u h = absurd (omega arith)
+four_more (a ∷ b ∷ c ∷ []) u h = absurd (omega arith)
+four_more (a ∷ b ∷ c ∷ d ∷ t) u h = omega arith
 
 -- a word is its two halves
 pub halves : (file : List ℕ) (i : ℕ) → 8 * (i + 1) ≤ length file
@@ -38,41 +38,41 @@ halves file i h =
     let long = length-drop (8 * i) file in
     sym (
     ap number_of (take-add 4 4 (drop (8 * i) file))
-    ∙ four-more (drop (8 * i) file) (take 4 (drop 4 (drop (8 * i) file))) (omega arith)
+    ∙ four_more (drop (8 * i) file) (take 4 (drop 4 (drop (8 * i) file))) (omega arith)
     ∙ ap (λ (l : List ℕ). number_of (take 4 (drop (8 * i) file)) + 4294967296 * number_of (take 4 l)) (drop-drop 4 (8 * i) file))
 
 -- ---- words that are read one after the other
 
 -- one word more
-pub words_more : (file : List ℕ) (at n : ℕ) → wordsAt file at (n + 1) ≡ wordsAt file at n ++ (word_at file (at + n) ∷ [])
+pub words_more : (file : List ℕ) (at n : ℕ) → words_at file at (n + 1) ≡ words_at file at n ++ (word_at file (at + n) ∷ [])
 words_more file at zero = ap (λ (k : ℕ). word_at file k ∷ []) (sym (add-zero at))
 words_more file at (suc n) =
-    ap (λ (k : ℕ). wordsAt file at k) (suc-add n 1)
+    ap (λ (k : ℕ). words_at file at k) (suc-add n 1)
     ∙ ap (λ (l : List ℕ). word_at file at ∷ l)
-    (words_more file (suc at) n ∙ ap (λ (k : ℕ). wordsAt file (suc at) n ++ (word_at file k ∷ [])) (suc-add at n ∙ sym (add-suc at n)))
+    (words_more file (suc at) n ∙ ap (λ (k : ℕ). words_at file (suc at) n ++ (word_at file k ∷ [])) (suc-add at n ∙ sym (add-suc at n)))
 
 -- each by its place
-pub words_are : (file : List ℕ) (at k n : ℕ) → wordsAt file (at + k) n ≡ map (λ i. word_at file (at + i)) (numbersFrom k n)
+pub words_are : (file : List ℕ) (at k n : ℕ) → words_at file (at + k) n ≡ map (λ i. word_at file (at + i)) (numbers_from k n)
 words_are file at k zero = refl
 words_are file at k (suc n) =
-    ap (λ (l : List ℕ). word_at file (at + k) ∷ l) (ap (λ (m : ℕ). wordsAt file m n) (sym (add-suc at k)) ∙ words_are file at (suc k) n)
+    ap (λ (l : List ℕ). word_at file (at + k) ∷ l) (ap (λ (m : ℕ). words_at file m n) (sym (add-suc at k)) ∙ words_are file at (suc k) n)
 
-pub length-words : (file : List ℕ) (at n : ℕ) → length (wordsAt file at n) ≡ n
-length-words file at zero = refl
-length-words file at (suc n) = ap suc (length-words file (suc at) n)
+pub length_words : (file : List ℕ) (at n : ℕ) → length (words_at file at n) ≡ n
+length_words file at zero = refl
+length_words file at (suc n) = ap suc (length_words file (suc at) n)
 
 -- ---- words that are written one after the other
 
-pub length-bytes : (ws : List ℕ) → length (word_bytes ws) ≡ 8 * length ws
-length-bytes [] = refl
-length-bytes (w ∷ ws) = let rest = length-bytes ws in omega arith
+pub length_bytes : (ws : List ℕ) → length (word_bytes ws) ≡ 8 * length ws
+length_bytes [] = refl
+length_bytes (w ∷ ws) = let rest = length_bytes ws in omega arith
 
-pub bytes-append : (ws vs : List ℕ) → word_bytes (ws ++ vs) ≡ word_bytes ws ++ word_bytes vs
-bytes-append [] vs = refl
-bytes-append (w ∷ ws) vs = ap (λ (l : List ℕ). bytes_of 8 w ++ l) (bytes-append ws vs)
+pub bytes_append : (ws vs : List ℕ) → word_bytes (ws ++ vs) ≡ word_bytes ws ++ word_bytes vs
+bytes_append [] vs = refl
+bytes_append (w ∷ ws) vs = ap (λ (l : List ℕ). bytes_of 8 w ++ l) (bytes_append ws vs)
 
-pub length-patch : (at : ℕ) (ws xs : List ℕ) → at + length ws ≤ length xs → length (patch at ws xs) ≡ length xs
-length-patch at ws xs h =
+pub length_patch : (at : ℕ) (ws xs : List ℕ) → at + length ws ≤ length xs → length (patch at ws xs) ≡ length xs
+length_patch at ws xs h =
     let whole = length-append (take at xs) (ws ++ drop (at + length ws) xs) in
     let back = length-append ws (drop (at + length ws) xs) in
     let front = length-take-le at xs (omega arith) in
@@ -80,15 +80,15 @@ length-patch at ws xs h =
     omega arith
 
 -- what stands in front of the end of what was written
-pub front-patch : (at : ℕ) (ws xs : List ℕ) (n : ℕ) → at + length ws ≡ n → n ≤ length xs → take n (patch at ws xs) ≡ take at xs ++ ws
-front-patch at ws xs n e h =
+pub front_patch : (at : ℕ) (ws xs : List ℕ) (n : ℕ) → at + length ws ≡ n → n ≤ length xs → take n (patch at ws xs) ≡ take at xs ++ ws
+front_patch at ws xs n e h =
     let front = length-take-le at xs (omega arith) in
     ap (take n) (sym (append_assoc (take at xs) ws (drop (at + length ws) xs)))
     ∙ take_at (take at xs ++ ws) (drop (at + length ws) xs) n (length-append (take at xs) ws ∙ omega arith)
 
 -- words behind words
-pub patch-behind : (at : ℕ) (ws vs xs : List ℕ) (n : ℕ) → at + length ws ≡ n → n + length vs ≤ length xs → patch n vs (patch at ws xs) ≡ patch at (ws ++ vs) xs
-patch-behind at ws vs xs n e h =
+pub patch_behind : (at : ℕ) (ws vs xs : List ℕ) (n : ℕ) → at + length ws ≡ n → n + length vs ≤ length xs → patch n vs (patch at ws xs) ≡ patch at (ws ++ vs) xs
+patch_behind at ws vs xs n e h =
     let front = length-take-le at xs (omega arith) in
     let head = length-append (take at xs) ws in
     let both = length-append ws vs in
@@ -98,23 +98,23 @@ patch-behind at ws vs xs n e h =
     ∙ drop-append-add (take at xs ++ ws) (drop (at + length ws) xs) (length vs)
     ∙ drop-drop (length vs) (at + length ws) xs
     ∙ ap (λ (k : ℕ). drop k xs) (add_assoc at (length ws) (length vs) ∙ ap (λ (k : ℕ). at + k) (sym both)) in
-    ap (λ (l : List ℕ). l ++ (vs ++ drop (n + length vs) (patch at ws xs))) (front-patch at ws xs n e (omega arith))
+    ap (λ (l : List ℕ). l ++ (vs ++ drop (n + length vs) (patch at ws xs))) (front_patch at ws xs n e (omega arith))
     ∙ ap (λ (l : List ℕ). (take at xs ++ ws) ++ (vs ++ l)) rest
     ∙ append_assoc (take at xs) ws (vs ++ drop (at + length (ws ++ vs)) xs)
     ∙ ap (λ (l : List ℕ). take at xs ++ l) (sym (append_assoc ws vs (drop (at + length (ws ++ vs)) xs)))
 
 -- nothing written yet
-pub patch-none : (at : ℕ) (xs : List ℕ) → xs ≡ patch at [] xs
-patch-none at xs = sym (ap (λ (k : ℕ). take at xs ++ drop k xs) (add-zero at) ∙ take-append-drop at xs)
+pub patch_none : (at : ℕ) (xs : List ℕ) → xs ≡ patch at [] xs
+patch_none at xs = sym (ap (λ (k : ℕ). take at xs ++ drop k xs) (add-zero at) ∙ take-append-drop at xs)
 
 -- a turn of the loop that writes: one word more
-pub turn-writes : (words file : List ℕ) (at i : ℕ) → i < length words → 8 * (at + length words) ≤ length file
+pub turn_writes : (words file : List ℕ) (at i : ℕ) → i < length words → 8 * (at + length words) ≤ length file
     → patch (8 * (at + i)) (bytes_of 8 (get_or words i 0)) (patch (8 * at) (word_bytes (take i words)) file) ≡ patch (8 * at) (word_bytes (take (i + 1) words)) file
-turn-writes words file at i h room =
-    let done = length-bytes (take i words) in
+turn_writes words file at i h room =
+    let done = length_bytes (take i words) in
     let long = length-take-le i words (omega arith) in
-    patch-behind (8 * at) (word_bytes (take i words)) (bytes_of 8 (get_or words i 0)) file (8 * (at + i)) (omega arith) (omega arith)
+    patch_behind (8 * at) (word_bytes (take i words)) (bytes_of 8 (get_or words i 0)) file (8 * (at + i)) (omega arith) (omega arith)
     ∙ ap (λ (l : List ℕ). patch (8 * at) l file)
     (ap (λ (l : List ℕ). word_bytes (take i words) ++ l) (sym (append-nil (bytes_of 8 (get_or words i 0))))
-    ∙ sym (bytes-append (take i words) (get_or words i 0 ∷ []))
+    ∙ sym (bytes_append (take i words) (get_or words i 0 ∷ []))
     ∙ ap word_bytes (sym (take-suc words i 0 h) ∙ ap (λ (k : ℕ). take k words) (sym (add-one i))))

@@ -25,6 +25,6 @@ abbrev pub word_at : List ℕ → ℕ → ℕ
 word_at file i = number_of (take 8 (drop (8 * i) file))
 
 -- so many words, from word `at` on
-abbrev pub wordsAt : List ℕ → ℕ → ℕ → List ℕ
-wordsAt file at zero = []
-wordsAt file at (suc n) = word_at file at ∷ wordsAt file (suc at) n
+abbrev pub words_at : List ℕ → ℕ → ℕ → List ℕ
+words_at file at zero = []
+words_at file at (suc n) = word_at file at ∷ words_at file (suc at) n

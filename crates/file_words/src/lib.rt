@@ -1,7 +1,7 @@
 // Words of 64 bits in a file of bytes, the lowest byte first: written from a place on, read at a place, and zeros behind.
 ghost use Rattle.std.specs.Prelude.{◌≡◌, ◌++◌, ◌+◌, ◌-◌, ◌*◌, ◌^◌, ◌≤◌, ◌<◌, length, take, drop, replicate};
 ghost use Rattle.outputs.specs.Buffers.{patch};
-ghost use Rattle.file_words.specs.Words.{bytes_of, word_bytes, number_of, word_at, wordsAt};
+ghost use Rattle.file_words.specs.Words.{bytes_of, word_bytes, number_of, word_at, words_at};
 
 // Writes the eight bytes of a word.
 fn write_word(bytes: &mut [u8], word: u64)
@@ -70,7 +70,7 @@ pub fn word_at(file: &[u8], i: usize) -> u64
 // Reads words from word number `at` on, as many as there is room for.
 pub fn get_words(file: &[u8], at: usize, words: &mut [u64])
     requires { 8 * (at + length words.old) ≤ length file.now }
-    ensures { words.new ≡ wordsAt file.now at (length words.old) }
+    ensures { words.new ≡ words_at file.now at (length words.old) }
 {
     let mut i: usize = 0;
     while i < words.len() {

@@ -4,7 +4,7 @@ use Rattle.std.proofs.Math.Option.{Option, some, none}
 use Rattle.std.specs.Int.Bits.{bit_and}
 use Rattle.std.specs.Float.{fin, binary64}
 use Rattle.std.specs.Float.Ieee.{add, sub, mul, neg, of_bits}
-use Rattle.kernels.specs.Bits.{oddOnes, highestBit, bitAt, withoutBit, dimension}
+use Rattle.kernels.specs.Bits.{odd_ones, highest_bit, bit_at, without_bit, dimension}
 use Rattle.kernels.specs.declared.active.Complex64.{Complex64}
 use Rattle.kernels.specs.declared.active.ActivePauliAction.{ActivePauliAction}
 use Rattle.kernels.specs.declared.active.PrecomputedActivePauliRotationKernel.{PrecomputedActivePauliRotationKernel}
@@ -20,29 +20,29 @@ pub data Answer (A : Type 0) : Type 0 where
   refused : ℕ → Answer A
 
 -- the floats 0 and 1
-abbrev pub zeroF : Float
-zeroF = fin false 0 (pos 0)
+abbrev pub zero_f : Float
+zero_f = fin false 0 (pos 0)
 
-abbrev pub oneF : Float
-oneF = fin false 1 (pos 0)
+abbrev pub one_f : Float
+one_f = fin false 1 (pos 0)
 
 abbrev pub complex : Float → Float → Complex64
 complex a b = record { re = a; im = b }
 
 -- 01, section 3: exponents 0, 1, 2, 3 give (1,0), (0,1), (-1,0), (0,-1)
-abbrev pub unitPower : ℕ → Complex64
-unitPower zero = complex oneF zeroF
-unitPower (suc zero) = complex zeroF oneF
-unitPower (suc (suc zero)) = complex (neg oneF) zeroF
-unitPower (suc (suc (suc p))) = complex zeroF (neg oneF)
+abbrev pub unit_power : ℕ → Complex64
+unit_power zero = complex one_f zero_f
+unit_power (suc zero) = complex zero_f one_f
+unit_power (suc (suc zero)) = complex (neg one_f) zero_f
+unit_power (suc (suc (suc p))) = complex zero_f (neg one_f)
 
 -- the even phase. An exponent above 3 counts modulo 4
-abbrev pub phaseFactor : ℕ → Complex64
-phaseFactor p = unitPower (p % 4)
+abbrev pub phase_factor : ℕ → Complex64
+phase_factor p = unit_power (p % 4)
 
 -- 01, section 3: the odd phase negates both parts
-abbrev pub oddPhase : Complex64 → Complex64
-oddPhase c = complex (neg c.re) (neg c.im)
+abbrev pub odd_phase : Complex64 → Complex64
+odd_phase c = complex (neg c.re) (neg c.im)
 
 -- 01, section 3: width, masks, phases, and whether x and z overlap in an odd number of places
 abbrev pub action : ℕ → ℕ → ℕ → ℕ → ActivePauliAction
@@ -50,9 +50,9 @@ action w x z p = record {
   nqubits = w;
   xmask = x;
   zmask = z;
-  even_phase = phaseFactor p;
-  odd_phase = oddPhase (phaseFactor p);
-  xz_overlap_odd = oddOnes (bit_and x z);
+  even_phase = phase_factor p;
+  odd_phase = odd_phase (phase_factor p);
+  xz_overlap_odd = odd_ones (bit_and x z);
 }
 
 -- 01, section 3: an exponent of 1 or 3, modulo 4
@@ -60,88 +60,88 @@ abbrev pub imaginary : ℕ → Bool
 imaginary p = eqb (p % 2) 1
 
 -- 01, section 3: with even phase (a, b) and sine s the coefficient is (0·a - (-s)·b, 0·b + (-s)·a), each operation rounded
-abbrev pub rotationCoefficient : Complex64 → Float → Complex64
-rotationCoefficient e s =
+abbrev pub rotation_coefficient : Complex64 → Float → Complex64
+rotation_coefficient e s =
     complex
-    (sub binary64 (mul binary64 zeroF e.re) (mul binary64 (neg s) e.im))
-    (add binary64 (mul binary64 zeroF e.im) (mul binary64 (neg s) e.re))
+    (sub binary64 (mul binary64 zero_f e.re) (mul binary64 (neg s) e.im))
+    (add binary64 (mul binary64 zero_f e.im) (mul binary64 (neg s) e.re))
 
 -- 01, section 3: z not 0, overlap of x and z odd, exponent 1 or 3
-abbrev pub pairFlip : ActivePauliAction → ℕ → Bool
-pairFlip a p = not (eqb a.zmask 0) && (a.xz_overlap_odd && imaginary p)
+abbrev pub pair_flip : ActivePauliAction → ℕ → Bool
+pair_flip a p = not (eqb a.zmask 0) && (a.xz_overlap_odd && imaginary p)
 
 -- 01, section 3: the rotation kernel of an action whose dimension is n
-abbrev pub rotationKernel : ℕ → ActivePauliAction → ℕ → Float → Float → Float → PrecomputedActivePauliRotationKernel
-rotationKernel n a p angle sine cosine =
+abbrev pub rotation_kernel : ℕ → ActivePauliAction → ℕ → Float → Float → Float → PrecomputedActivePauliRotationKernel
+rotation_kernel n a p angle sine cosine =
     let diagonal = eqb a.xmask 0 in record {
       action = a;
       is_diagonal = diagonal;
       uniform_imag_pairs = not diagonal && eqb a.zmask 0;
-      real_pair_flip = not diagonal && pairFlip a p;
-      pair_bit = cond diagonal 0 (highestBit a.xmask);
+      real_pair_flip = not diagonal && pair_flip a p;
+      pair_bit = cond diagonal 0 (highest_bit a.xmask);
       pair_count = cond diagonal 0 (n / 2);
       kernel_angle = angle;
       cos_kernel_angle = cosine;
       sin_kernel_angle = sine;
-      minus_even_coefficient = rotationCoefficient a.even_phase sine;
+      minus_even_coefficient = rotation_coefficient a.even_phase sine;
     }
 
 -- 14 where the dimension is too large, and else what `f` makes of it
-abbrev pub ofDimension : {A : Type 0} → Option ℕ → (ℕ → Answer A) → Answer A
-ofDimension none f = refused 14
-ofDimension (some n) f = f n
+abbrev pub of_dimension : {A : Type 0} → Option ℕ → (ℕ → Answer A) → Answer A
+of_dimension none f = refused 14
+of_dimension (some n) f = f n
 
 -- the rotation kernel, or 14
 abbrev pub rotation : ℕ → ActivePauliAction → ℕ → Float → Float → Float → Answer PrecomputedActivePauliRotationKernel
-rotation limit a p angle sine cosine = ofDimension (dimension limit a.nqubits) (λ n. given (rotationKernel n a p angle sine cosine))
+rotation limit a p angle sine cosine = of_dimension (dimension limit a.nqubits) (λ n. given (rotation_kernel n a p angle sine cosine))
 
 -- 01's number and values for each answer of the rotation kernel's call
-abbrev pub rotationOf : RotationKernel → Answer PrecomputedActivePauliRotationKernel
-rotationOf (R.Built k) = given k
-rotationOf R.TooLarge = refused 14
+abbrev pub rotation_of : RotationKernel → Answer PrecomputedActivePauliRotationKernel
+rotation_of (R.Built k) = given k
+rotation_of R.TooLarge = refused 14
 
 -- 01, section 3: h has the bits 3FE6A09E667F3BCD, and the coefficient is (a·h, (-b)·h)
-abbrev pub invSqrt2 : Float
-invSqrt2 = of_bits binary64 0x3FE6A09E667F3BCD
+abbrev pub inv_sqrt2 : Float
+inv_sqrt2 = of_bits binary64 0x3FE6A09E667F3BCD
 
-abbrev pub measurementCoefficient : Complex64 → Complex64
-measurementCoefficient e = complex (mul binary64 e.re invSqrt2) (mul binary64 (neg e.im) invSqrt2)
+abbrev pub measurement_coefficient : Complex64 → Complex64
+measurement_coefficient e = complex (mul binary64 e.re inv_sqrt2) (mul binary64 (neg e.im) inv_sqrt2)
 
 -- 01, section 3: the measurement kernel of an action whose dimension is n, with its phase bit and its z mask without the pivot
-abbrev pub measurementKernel : ℕ → ActivePauliAction → ℕ → Bool → ℕ → ℕ → PrecomputedActivePauliMeasurementKernel
-measurementKernel n a pivot diagonal bit rest = record {
+abbrev pub measurement_kernel : ℕ → ActivePauliAction → ℕ → Bool → ℕ → ℕ → PrecomputedActivePauliMeasurementKernel
+measurement_kernel n a pivot diagonal bit rest = record {
   action = a;
   pivot = pivot;
   is_diagonal = diagonal;
   diagonal_phase_bit = bit;
   z_without_pivot = rest;
   out_dim = n / 2;
-  nondiagonal_coefficient1_even = measurementCoefficient a.even_phase;
+  nondiagonal_coefficient1_even = measurement_coefficient a.even_phase;
 }
 
 -- 01, section 3 and refusal 17: x is not 0
 abbrev pub nondiagonal : ℕ → ActivePauliAction → ℕ → Answer PrecomputedActivePauliMeasurementKernel
-nondiagonal n a pivot = cond (eqb (bitAt a.xmask pivot) 0) (refused 17) (given (measurementKernel n a pivot false 0 0))
+nondiagonal n a pivot = cond (eqb (bit_at a.xmask pivot) 0) (refused 17) (given (measurement_kernel n a pivot false 0 0))
 
 -- 01, section 3 and refusals 18, 19: x is 0, z is not. The phase bit is 1 for exponent 2
 abbrev pub diagonal : ℕ → ActivePauliAction → ℕ → ℕ → Answer PrecomputedActivePauliMeasurementKernel
 diagonal n a p pivot =
-    cond (eqb (bitAt a.zmask pivot) 0) (refused 18)
+    cond (eqb (bit_at a.zmask pivot) 0) (refused 18)
     (cond (imaginary p) (refused 19)
-    (given (measurementKernel n a pivot true (p % 4 / 2) (withoutBit a.zmask pivot))))
+    (given (measurement_kernel n a pivot true (p % 4 / 2) (without_bit a.zmask pivot))))
 
 -- the measurement kernel, or 14, or the first of 17 to 20
 abbrev pub measurement : ℕ → ActivePauliAction → ℕ → ℕ → Answer PrecomputedActivePauliMeasurementKernel
 measurement limit a p pivot =
-    ofDimension (dimension limit a.nqubits) λ n.
+    of_dimension (dimension limit a.nqubits) λ n.
     cond (not (eqb a.xmask 0)) (nondiagonal n a pivot)
     (cond (not (eqb a.zmask 0)) (diagonal n a p pivot) (refused 20))
 
 -- 01's number and values for each answer of the measurement kernel's call
-abbrev pub measurementOf : MeasurementKernel → Answer PrecomputedActivePauliMeasurementKernel
-measurementOf (M.Built k) = given k
-measurementOf M.TooLarge = refused 14
-measurementOf M.PivotWithoutX = refused 17
-measurementOf M.PivotWithoutZ = refused 18
-measurementOf M.ImaginaryPhase = refused 19
-measurementOf M.Identity = refused 20
+abbrev pub measurement_of : MeasurementKernel → Answer PrecomputedActivePauliMeasurementKernel
+measurement_of (M.Built k) = given k
+measurement_of M.TooLarge = refused 14
+measurement_of M.PivotWithoutX = refused 17
+measurement_of M.PivotWithoutZ = refused 18
+measurement_of M.ImaginaryPhase = refused 19
+measurement_of M.Identity = refused 20

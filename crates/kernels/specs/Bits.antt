@@ -7,22 +7,22 @@ use Rattle.kernels.specs.declared.bits.ActiveLength.{ActiveLength}
 use Rattle.kernels.specs.declared.bits.ActiveLength.TheVariants.{Length, TooLarge}
 
 -- 01, section 1: the ones of a 64-bit word are odd in number
-unfoldable pub oddOnes : ℕ → Bool
+unfoldable pub odd_ones : ℕ → Bool
 unfolding ones_in
-oddOnes x = eqb (ones_in 64 x % 2) 1
+odd_ones x = eqb (ones_in 64 x % 2) 1
 
 -- 01, section 1: the highest set bit, from the leading zeros. The word 0 has 64 of them, and gives 0
-unfoldable pub highestBit : ℕ → ℕ
+unfoldable pub highest_bit : ℕ → ℕ
 unfolding count_leading_zeros
-highestBit x = 63 - count_leading_zeros 64 x
+highest_bit x = 63 - count_leading_zeros 64 x
 
 -- the bit of x at the place p, 0 or 1
-abbrev pub bitAt : ℕ → ℕ → ℕ
-bitAt x p = x / 2 ^ p % 2
+abbrev pub bit_at : ℕ → ℕ → ℕ
+bit_at x p = x / 2 ^ p % 2
 
 -- x with a 0 there
-abbrev pub withoutBit : ℕ → ℕ → ℕ
-withoutBit x p = x - bitAt x p * 2 ^ p
+abbrev pub without_bit : ℕ → ℕ → ℕ
+without_bit x p = x - bit_at x p * 2 ^ p
 
 -- 01, section 4: exp2 is the exact power of two. binary64 has none past 1023, where this is the infinity
 abbrev pub exp2 : ℕ → Float
@@ -33,6 +33,6 @@ unfoldable pub dimension : ℕ → ℕ → Option ℕ
 dimension limit k = cond (ltb k (min limit 64)) (some (2 ^ k)) none
 
 -- the dimension that an answer of `active_length` gives
-abbrev pub dimensionOf : ActiveLength → Option ℕ
-dimensionOf (Length n) = some n
-dimensionOf TooLarge = none
+abbrev pub dimension_of : ActiveLength → Option ℕ
+dimension_of (Length n) = some n
+dimension_of TooLarge = none

@@ -1,7 +1,7 @@
 // The action of one Pauli on a register, and the two kernels that are made of it: a rotation's, and a measurement's
 // around a pivot.
 ghost use Rattle.std.specs.Prelude.{◌≡◌};
-ghost use Rattle.kernels.specs.Active.{phaseFactor, oddPhase, action, rotationCoefficient, pairFlip, rotationKernel, rotation, rotationOf, measurementCoefficient, nondiagonal, diagonal, measurement, measurementOf};
+ghost use Rattle.kernels.specs.Active.{phase_factor, odd_phase, action, rotation_coefficient, pair_flip, rotation_kernel, rotation, rotation_of, measurement_coefficient, nondiagonal, diagonal, measurement, measurement_of};
 
 use crate::bits::{
     ActiveLength, active_length, bit_at, highest_set_bit, is_odd_popcount, without_bit,
@@ -75,7 +75,7 @@ const INV_SQRT2: f64 = 0.7071067811865476;
 
 // The imaginary unit to the power of the phase exponent, which counts modulo 4.
 pub fn phase_factor(phase: u64) -> Complex64
-    ensures { result ≡ phaseFactor phase }
+    ensures { result ≡ phase_factor phase }
 {
     let p = phase % 4;
     match p {
@@ -89,7 +89,7 @@ pub fn phase_factor(phase: u64) -> Complex64
 impl Complex64 {
     // The number with both parts negated.
     pub fn negated(self) -> Self
-        ensures { result ≡ oddPhase self }
+        ensures { result ≡ odd_phase self }
     {
         Complex64 {
             re: -self.re,
@@ -118,7 +118,7 @@ impl ActivePauliAction {
 
 // The coefficient of a rotation: minus the imaginary unit times the sine, times the even phase.
 fn rotation_coefficient(even_phase: Complex64, sine: f64) -> Complex64
-    ensures { result ≡ rotationCoefficient even_phase sine }
+    ensures { result ≡ rotation_coefficient even_phase sine }
 {
     let minus_sine = -sine;
     Complex64 {
@@ -129,7 +129,7 @@ fn rotation_coefficient(even_phase: Complex64, sine: f64) -> Complex64
 
 // Whether every pair rotates by a real coefficient whose sign flips within the pair.
 fn can_rotate_real_pair_flip(action: ActivePauliAction, phase: u64) -> bool
-    ensures { result ≡ pairFlip action phase }
+    ensures { result ≡ pair_flip action phase }
 {
     if action.zmask == 0 {
         return false;
@@ -150,7 +150,7 @@ fn rotation_kernel(
     cosine: f64,
     dim: u64,
 ) -> PrecomputedActivePauliRotationKernel
-    ensures { result ≡ rotationKernel dim action phase kernel_angle sine cosine }
+    ensures { result ≡ rotation_kernel dim action phase kernel_angle sine cosine }
 {
     let mut kernel = PrecomputedActivePauliRotationKernel {
         action,
@@ -185,7 +185,7 @@ impl PrecomputedActivePauliRotationKernel {
         cosine: f64,
         limit: u64,
     ) -> RotationKernel
-        ensures { rotationOf result ≡ rotation limit action phase kernel_angle sine cosine }
+        ensures { rotation_of result ≡ rotation limit action phase kernel_angle sine cosine }
     {
         let length = active_length(action.nqubits, limit);
         match length {
@@ -204,7 +204,7 @@ impl PrecomputedActivePauliRotationKernel {
 
 // The coefficient of a measurement: the conjugate of the even phase over the square root of 2.
 fn measurement_coefficient(even_phase: Complex64) -> Complex64
-    ensures { result ≡ measurementCoefficient even_phase }
+    ensures { result ≡ measurement_coefficient even_phase }
 {
     Complex64 {
         re: even_phase.re * INV_SQRT2,
@@ -214,7 +214,7 @@ fn measurement_coefficient(even_phase: Complex64) -> Complex64
 
 // The kernel of a measurement with X bits.
 fn nondiagonal_kernel(action: ActivePauliAction, pivot: u64, dim: u64) -> MeasurementKernel
-    ensures { measurementOf result ≡ nondiagonal dim action pivot }
+    ensures { measurement_of result ≡ nondiagonal dim action pivot }
 {
     if bit_at(action.xmask, pivot) == 0 {
         return MeasurementKernel::PivotWithoutX;
@@ -232,7 +232,7 @@ fn nondiagonal_kernel(action: ActivePauliAction, pivot: u64, dim: u64) -> Measur
 
 // The kernel of a measurement with Z bits alone.
 fn diagonal_kernel(action: ActivePauliAction, phase: u64, pivot: u64, dim: u64) -> MeasurementKernel
-    ensures { measurementOf result ≡ diagonal dim action phase pivot }
+    ensures { measurement_of result ≡ diagonal dim action phase pivot }
 {
     if bit_at(action.zmask, pivot) == 0 {
         return MeasurementKernel::PivotWithoutZ;
@@ -259,7 +259,7 @@ impl PrecomputedActivePauliMeasurementKernel {
         pivot: u64,
         limit: u64,
     ) -> MeasurementKernel
-        ensures { measurementOf result ≡ measurement limit action phase pivot }
+        ensures { measurement_of result ≡ measurement limit action phase pivot }
     {
         let length = active_length(action.nqubits, limit);
         match length {

@@ -1,6 +1,6 @@
 // Words as sets of bits, and powers of two as floats and as dimensions.
 ghost use Rattle.std.specs.Prelude.{◌≡◌};
-ghost use Rattle.kernels.specs.Bits.{oddOnes, highestBit, bitAt, withoutBit, exp2, dimension, dimensionOf};
+ghost use Rattle.kernels.specs.Bits.{odd_ones, highest_bit, bit_at, without_bit, exp2, dimension, dimension_of};
 
 // The number of amplitudes of a register, or that the register is too wide.
 #[derive(Drop)]
@@ -11,14 +11,14 @@ pub enum ActiveLength {
 
 // Whether the set bits of a word are odd in number.
 pub fn is_odd_popcount(value: u64) -> bool
-    ensures { result ≡ oddOnes value }
+    ensures { result ≡ odd_ones value }
 {
     u64::count_ones(value) % 2 == 1
 }
 
 // The place of the highest set bit of a word, and 0 for the word 0.
 pub fn highest_set_bit(value: u64) -> u64
-    ensures { result ≡ highestBit value }
+    ensures { result ≡ highest_bit value }
 {
     if value == 0 {
         return 0;
@@ -28,7 +28,7 @@ pub fn highest_set_bit(value: u64) -> u64
 
 // The bit of a word at a place, 0 or 1, and 0 past the word's end.
 pub fn bit_at(value: u64, place: u64) -> u64
-    ensures { result ≡ bitAt value place }
+    ensures { result ≡ bit_at value place }
 {
     if 64 <= place {
         return 0;
@@ -38,7 +38,7 @@ pub fn bit_at(value: u64, place: u64) -> u64
 
 // The word without its bit at a place.
 pub fn without_bit(value: u64, place: u64) -> u64
-    ensures { result ≡ withoutBit value place }
+    ensures { result ≡ without_bit value place }
 {
     if bit_at(value, place) == 0 {
         return value;
@@ -58,7 +58,7 @@ pub fn exact_exp2(k: u64) -> f64
 
 // The number of amplitudes of k coordinates: 2 to the k below the limit, where a word holds it.
 pub fn active_length(k: u64, limit: u64) -> ActiveLength
-    ensures { dimensionOf result ≡ dimension limit k }
+    ensures { dimension_of result ≡ dimension limit k }
 {
     if limit <= k {
         return ActiveLength::TooLarge;

@@ -1,8 +1,8 @@
 // What the entry asks before the walk and does after it: the head's dense peak or refusal 24 or 1, whether the lent buffers
 // are long enough, refusals 2 to 4, zeros behind the used words or everywhere, and the choice.
 ghost use Rattle.std.specs.Prelude.{◌≡◌, ◌^◌, ◌<◌};
-ghost use Rattle.definition.specs.Plan.{chosen, buffersRefused, refusedAt};
-ghost use Rattle.lent.specs.Lent.{headAnswer, densePeakOf, Held, lentNumber, UsedFit, RestCleared};
+ghost use Rattle.definition.specs.Plan.{chosen, buffers_refused, refused_at};
+ghost use Rattle.lent.specs.Lent.{head_answer, dense_peak_of, Held, lent_number, UsedFit, RestCleared};
 
 use kernels::bits::{ActiveLength, active_length};
 use outputs::buffers::clear_from;
@@ -21,7 +21,7 @@ pub enum DensePeak {
 
 // The dense peak of a head, or refusal 24 or 1.
 pub fn dense_peak(head: Head) -> DensePeak
-    ensures { densePeakOf result ≡ headAnswer head }
+    ensures { dense_peak_of result ≡ head_answer head }
 {
     let max_k = head.max_k;
     let ceiling = head.ceiling;
@@ -50,7 +50,7 @@ pub fn buffers_short(
     groups: usize,
 ) -> bool
     requires { n < 2 ^ 58 }
-    ensures { result ≡ buffersRefused n (record { steps = steps; merges = merges; sizes = sizes; rotations = rotations; promotions = promotions; measurements = measurements; groups = groups }) }
+    ensures { result ≡ buffers_refused n (record { steps = steps; merges = merges; sizes = sizes; rotations = rotations; promotions = promotions; measurements = measurements; groups = groups }) }
 {
     if steps < 2 * n {
         return true;
@@ -75,7 +75,7 @@ pub fn buffers_short(
 
 // Refusals 2 to 4, or 0.
 pub fn lent_number(initial_k: u64, words: usize, short: bool) -> u64
-    ensures { result ≡ lentNumber initial_k words short }
+    ensures { result ≡ lent_number initial_k words short }
 {
     if words % 8 != 0 {
         return 2;
@@ -124,7 +124,7 @@ pub fn clear_all(
     measurements: &mut [u64],
     groups: &mut [u64],
 )
-    ensures { Held (refusedAt 0 0) (record { steps = steps.entry.now; merges = merges.old; sizes = sizes.old; rotations = rotations.old; promotions = promotions.old; measurements = measurements.old; groups = groups.old }) (record { steps = steps.exit.now; merges = merges.new; sizes = sizes.new; rotations = rotations.new; promotions = promotions.new; measurements = measurements.new; groups = groups.new }) }
+    ensures { Held (refused_at 0 0) (record { steps = steps.entry.now; merges = merges.old; sizes = sizes.old; rotations = rotations.old; promotions = promotions.old; measurements = measurements.old; groups = groups.old }) (record { steps = steps.exit.now; merges = merges.new; sizes = sizes.new; rotations = rotations.new; promotions = promotions.new; measurements = measurements.new; groups = groups.new }) }
 {
     clear_from(steps, 0);
     clear_from(merges, 0);

@@ -3,10 +3,10 @@
 pub mod stored;
 
 ghost use Rattle.std.specs.Prelude.{◌≡◌, length, get_or};
-ghost use Rattle.definition.specs.WholeWorks.{wholeWords};
-ghost use Rattle.tally.specs.Tally.{worksOf};
-ghost use Rattle.answer.specs.Outcome.{outcomeOf};
-ghost use Rattle.midvokt.specs.Reply.{Replies, number_of, words_of, laidOut};
+ghost use Rattle.definition.specs.WholeWorks.{whole_words};
+ghost use Rattle.tally.specs.Tally.{works_of};
+ghost use Rattle.answer.specs.Outcome.{outcome_of};
+ghost use Rattle.midvokt.specs.Reply.{Replies, number_of, words_of, laid_out};
 
 use answer::{ActiveComponentPlan, Planned};
 use component_plan::build_active_component_plan;
@@ -16,7 +16,7 @@ use tally::WholeWorks;
 
 // 0 for a plan, and else the refusal's number.
 fn reply_number(planned: Planned) -> u64
-    ensures { result ≡ number_of (outcomeOf planned) }
+    ensures { result ≡ number_of (outcome_of planned) }
 {
     match planned {
         Planned::Plan(plan) => 0,
@@ -26,7 +26,7 @@ fn reply_number(planned: Planned) -> u64
 
 // Word i of the whole works: the mark, dense, component, quotient and remainder, and 0 past them.
 fn whole_word(works: WholeWorks, i: usize) -> u64
-    ensures { result ≡ get_or (wholeWords (worksOf works)) i 0 }
+    ensures { result ≡ get_or (whole_words (works_of works)) i 0 }
 {
     match works {
         WholeWorks::TooWide => 0,
@@ -53,7 +53,7 @@ fn whole_word(works: WholeWorks, i: usize) -> u64
 
 // Word i of a plan's result: 0, the eight scalar fields, the five words of the whole works, and 0 past them.
 fn plan_word(plan: ActiveComponentPlan, i: usize) -> u64
-    ensures { result ≡ get_or (words_of (outcomeOf (Planned.Plan plan))) i 0 }
+    ensures { result ≡ get_or (words_of (outcome_of (Planned.Plan plan))) i 0 }
 {
     match i {
         1 => flag_word(plan.selected),
@@ -76,7 +76,7 @@ fn plan_word(plan: ActiveComponentPlan, i: usize) -> u64
 
 // Word i of the result.
 fn result_word(planned: Planned, i: usize) -> u64
-    ensures { result ≡ get_or (words_of (outcomeOf planned)) i 0 }
+    ensures { result ≡ get_or (words_of (outcome_of planned)) i 0 }
 {
     match planned {
         Planned::Plan(plan) => plan_word(plan, i),
@@ -86,7 +86,7 @@ fn result_word(planned: Planned, i: usize) -> u64
 
 // Writes the result, as many of its words as there is room for, and zeros behind them.
 fn write_result(planned: Planned, res: &mut [u64])
-    ensures { res.new ≡ laidOut (length res.old) (words_of (outcomeOf planned)) }
+    ensures { res.new ≡ laid_out (length res.old) (words_of (outcome_of planned)) }
 {
     let mut i: usize = 0;
     while i < res.len() {

@@ -2,8 +2,8 @@
 ghost use Rattle.std.specs.Prelude.{◌≡◌, length, get_or};
 ghost use Rattle.stored_plan.specs.Loading as Loading;
 ghost use Rattle.store.specs.Storing as Storing;
-ghost use Rattle.midvokt.specs.Reply.{laidOut};
-ghost use Rattle.midvokt.specs.Stored.{storeNumber, store_words, StoreReplies, loadNumber, loadWords, LoadReplies};
+ghost use Rattle.midvokt.specs.Reply.{laid_out};
+ghost use Rattle.midvokt.specs.Stored.{store_number, store_words, StoreReplies, load_number, load_words, LoadReplies};
 
 use records::Head;
 use store::{Stored, store};
@@ -18,7 +18,7 @@ fn word_or_zero(words: &[u64], i: usize) -> u64
 
 // Writes words into the result, as many as there is room for, and zeros behind them.
 fn lay_out(words: &[u64], res: &mut [u64])
-    ensures { res.new ≡ laidOut (length res.old) words.now }
+    ensures { res.new ≡ laid_out (length res.old) words.now }
 {
     let mut i: usize = 0;
     while i < res.len() {
@@ -29,7 +29,7 @@ fn lay_out(words: &[u64], res: &mut [u64])
 
 // 0 for a file, and else the refusal's number.
 fn store_number(stored: Stored) -> u64
-    ensures { result ≡ storeNumber (Storing.outcomeOf stored) }
+    ensures { result ≡ store_number (Storing.outcome_of stored) }
 {
     match stored {
         Stored::File { length } => 0,
@@ -39,7 +39,7 @@ fn store_number(stored: Stored) -> u64
 
 // The refusal's record index and the file's length in bytes.
 fn store_words(stored: Stored) -> [u64; 2]
-    ensures { result ≡ store_words (Storing.outcomeOf stored) }
+    ensures { result ≡ store_words (Storing.outcome_of stored) }
 {
     match stored {
         Stored::File { length } => [0, length as u64],
@@ -49,7 +49,7 @@ fn store_words(stored: Stored) -> [u64; 2]
 
 // 0 for a plan, and else the refusal's number.
 fn load_number(loaded: Loaded) -> u64
-    ensures { result ≡ loadNumber (Loading.outcomeOf loaded) }
+    ensures { result ≡ load_number (Loading.outcome_of loaded) }
 {
     match loaded {
         Loaded::Plan { scalars, counts } => 0,
@@ -59,7 +59,7 @@ fn load_number(loaded: Loaded) -> u64
 
 // 0, the eight scalar words and the six counts.
 fn load_words(loaded: Loaded) -> [u64; 15]
-    ensures { result ≡ loadWords (Loading.outcomeOf loaded) }
+    ensures { result ≡ load_words (Loading.outcome_of loaded) }
 {
     match loaded {
         Loaded::Plan { scalars, counts } => [

@@ -12,81 +12,81 @@ use lib.Dec.{eqb}
 use lib.ListN.{length, get_or, set, take, drop, length-take, drop_of_length-le, get_or-eq_default}
 use lib.Seq.{drop-cons, get_or-take}
 use borrow.Author.Tests.{eq-eqb, ne_eqb}
-use Rattle.outputs.specs.Buffers.{Counts, countsFrom, placedUpTo, word_at}
+use Rattle.outputs.specs.Buffers.{Counts, counts_from, placed_up_to, word_at}
 
 -- a component with members
 abbrev grown : ℕ → ℕ → Counts → Counts
 grown c s h = record { groups = set h.groups h.used s; start = set h.start c (suc h.used); used = h.used + suc s }
 
-chosen-grows : (t : Bool) (c s : ℕ) (h : Counts) → h.used ≤ (cond t h (grown c s h)).used
-chosen-grows true c s h = le_refl h.used
-chosen-grows false c s h = omega arith
+chosen_grows : (t : Bool) (c s : ℕ) (h : Counts) → h.used ≤ (cond t h (grown c s h)).used
+chosen_grows true c s h = le_refl h.used
+chosen_grows false c s h = omega arith
 
-used_grows : (c : ℕ) (ss : List ℕ) (h : Counts) → h.used ≤ (countsFrom c ss h).used
+used_grows : (c : ℕ) (ss : List ℕ) (h : Counts) → h.used ≤ (counts_from c ss h).used
 used_grows c [] h = le_refl h.used
-used_grows c (s ∷ ss) h = le_trans (chosen-grows (eqb s 0) c s h) (used_grows (suc c) ss (cond (eqb s 0) h (grown c s h)))
+used_grows c (s ∷ ss) h = le_trans (chosen_grows (eqb s 0) c s h) (used_grows (suc c) ss (cond (eqb s 0) h (grown c s h)))
 
 -- the components from c on: the one of number c and the others. Past the end of the sizes there are none, and 0 stands for each
-counts-go : (size : List ℕ) (count c : ℕ) (h : Counts) → c < count
-    → countsFrom c (drop c (take count size)) h
-    ≡ countsFrom (suc c) (drop (suc c) (take count size)) (cond (eqb (get_or size c 0) 0) h (grown c (get_or size c 0) h))
-counts-go size count c h l =
+counts_go : (size : List ℕ) (count c : ℕ) (h : Counts) → c < count
+    → counts_from c (drop c (take count size)) h
+    ≡ counts_from (suc c) (drop (suc c) (take count size)) (cond (eqb (get_or size c 0) 0) h (grown c (get_or size c 0) h))
+counts_go size count c h l =
     ⊎_elim
     (λ (z : length (take count size) - c ≡ 0).
     let m : length (take count size) ≤ c = omega arith in
     let short : length size ≤ c = omega (arith, length-take count size) in
     let after : length (take count size) ≤ suc c = omega arith in
-    ap (λ (ss : List ℕ). countsFrom c ss h) (drop_of_length-le (take count size) m)
-    ∙ sym (ap (λ (ss : List ℕ). countsFrom (suc c) ss (cond (eqb (get_or size c 0) 0) h (grown c (get_or size c 0) h))) (drop_of_length-le (take count size) after)
+    ap (λ (ss : List ℕ). counts_from c ss h) (drop_of_length-le (take count size) m)
+    ∙ sym (ap (λ (ss : List ℕ). counts_from (suc c) ss (cond (eqb (get_or size c 0) 0) h (grown c (get_or size c 0) h))) (drop_of_length-le (take count size) after)
     ∙ ap (λ (s : ℕ). cond (eqb s 0) h (grown c s h)) (get_or-eq_default size 0 short)))
     (λ (z : 0 < length (take count size) - c).
     let m : c < length (take count size) = omega arith in
-    ap (λ (ss : List ℕ). countsFrom c ss h) (drop-cons (take count size) c 0 m)
-    ∙ ap (λ (s : ℕ). countsFrom (suc c) (drop (suc c) (take count size)) (cond (eqb s 0) h (grown c s h))) (get_or-take count size c 0 l))
+    ap (λ (ss : List ℕ). counts_from c ss h) (drop-cons (take count size) c 0 m)
+    ∙ ap (λ (s : ℕ). counts_from (suc c) (drop (suc c) (take count size)) (cond (eqb s 0) h (grown c s h))) (get_or-take count size c 0 l))
     (eq-zero-or-pos (length (take count size) - c))
 
 module _ (size : List ℕ) (count c : ℕ) (groups start : List ℕ) (used : ℕ) (l : c < count) where
   abbrev here : Counts
   here = record { groups = groups; start = start; used = used }
 
-  pub counts-empty : (groups' start' : List ℕ) (used' : ℕ) → get_or size c 0 ≡ 0 → groups' ≡ groups → start' ≡ start → used' ≡ used
-      → countsFrom c (drop c (take count size)) here ≡ countsFrom (c + 1) (drop (c + 1) (take count size)) (record { groups = groups'; start = start'; used = used' })
-  counts-empty groups' start' used' e p q r =
-      counts-go size count c here l
-      ∙ ap (λ (t : Bool). countsFrom (suc c) (drop (suc c) (take count size)) (cond t here (grown c (get_or size c 0) here))) (eq-eqb _ _ e)
+  pub counts_empty : (groups' start' : List ℕ) (used' : ℕ) → get_or size c 0 ≡ 0 → groups' ≡ groups → start' ≡ start → used' ≡ used
+      → counts_from c (drop c (take count size)) here ≡ counts_from (c + 1) (drop (c + 1) (take count size)) (record { groups = groups'; start = start'; used = used' })
+  counts_empty groups' start' used' e p q r =
+      counts_go size count c here l
+      ∙ ap (λ (t : Bool). counts_from (suc c) (drop (suc c) (take count size)) (cond t here (grown c (get_or size c 0) here))) (eq-eqb _ _ e)
       ∙ rw (add-one, p, q, r)
 
-  counts-one : (get_or size c 0 ≡ 0 → ⊥) → countsFrom c (drop c (take count size)) here ≡ countsFrom (suc c) (drop (suc c) (take count size)) (grown c (get_or size c 0) here)
-  counts-one n =
-      counts-go size count c here l
-      ∙ ap (λ (t : Bool). countsFrom (suc c) (drop (suc c) (take count size)) (cond t here (grown c (get_or size c 0) here))) (ne_eqb _ _ n)
+  counts_one : (get_or size c 0 ≡ 0 → ⊥) → counts_from c (drop c (take count size)) here ≡ counts_from (suc c) (drop (suc c) (take count size)) (grown c (get_or size c 0) here)
+  counts_one n =
+      counts_go size count c here l
+      ∙ ap (λ (t : Bool). counts_from (suc c) (drop (suc c) (take count size)) (cond t here (grown c (get_or size c 0) here))) (ne_eqb _ _ n)
 
   -- the words of the component of number c are inside those that are taken in the end
-  pub counts-room : (get_or size c 0 ≡ 0 → ⊥) → used + suc (get_or size c 0) ≤ (countsFrom c (drop c (take count size)) here).used
-  counts-room n =
+  pub counts_room : (get_or size c 0 ≡ 0 → ⊥) → used + suc (get_or size c 0) ≤ (counts_from c (drop c (take count size)) here).used
+  counts_room n =
       let grows = used_grows (suc c) (drop (suc c) (take count size)) (grown c (get_or size c 0) here) in
-      let same = ap (λ (h : Counts). h.used) (counts-one n) in
+      let same = ap (λ (h : Counts). h.used) (counts_one n) in
       omega arith
 
-  pub counts-full : (groups' start' : List ℕ) (used' : ℕ) → (get_or size c 0 ≡ 0 → ⊥)
+  pub counts_full : (groups' start' : List ℕ) (used' : ℕ) → (get_or size c 0 ≡ 0 → ⊥)
       → groups' ≡ set groups used (get_or size c 0) → start' ≡ set start c (used + 1) → used' ≡ used + 1 + get_or size c 0
-      → countsFrom c (drop c (take count size)) here ≡ countsFrom (c + 1) (drop (c + 1) (take count size)) (record { groups = groups'; start = start'; used = used' })
-  counts-full groups' start' used' n p q r =
+      → counts_from c (drop c (take count size)) here ≡ counts_from (c + 1) (drop (c + 1) (take count size)) (record { groups = groups'; start = start'; used = used' })
+  counts_full groups' start' used' n p q r =
       let last : used + suc (get_or size c 0) ≡ used' = omega arith in
-      counts-one n
-      ∙ ap (λ (k : ℕ). countsFrom k (drop k (take count size)) (record { groups = set groups used (get_or size c 0); start = set start c (suc used); used = used + suc (get_or size c 0) })) (sym (add-one c))
-      ∙ ap (λ (g : List ℕ). countsFrom (c + 1) (drop (c + 1) (take count size)) (record { groups = g; start = set start c (suc used); used = used + suc (get_or size c 0) })) (sym p)
-      ∙ ap (λ (g : List ℕ). countsFrom (c + 1) (drop (c + 1) (take count size)) (record { groups = groups'; start = g; used = used + suc (get_or size c 0) })) (ap (λ (k : ℕ). set start c k) (sym (add-one used)) ∙ sym q)
-      ∙ ap (λ (k : ℕ). countsFrom (c + 1) (drop (c + 1) (take count size)) (record { groups = groups'; start = start'; used = k })) last
+      counts_one n
+      ∙ ap (λ (k : ℕ). counts_from k (drop k (take count size)) (record { groups = set groups used (get_or size c 0); start = set start c (suc used); used = used + suc (get_or size c 0) })) (sym (add-one c))
+      ∙ ap (λ (g : List ℕ). counts_from (c + 1) (drop (c + 1) (take count size)) (record { groups = g; start = set start c (suc used); used = used + suc (get_or size c 0) })) (sym p)
+      ∙ ap (λ (g : List ℕ). counts_from (c + 1) (drop (c + 1) (take count size)) (record { groups = groups'; start = g; used = used + suc (get_or size c 0) })) (ap (λ (k : ℕ). set start c k) (sym (add-one used)) ∙ sym q)
+      ∙ ap (λ (k : ℕ). counts_from (c + 1) (drop (c + 1) (take count size)) (record { groups = groups'; start = start'; used = k })) last
 
-pub counts_end : (size : List ℕ) (count c : ℕ) (h : Counts) → count ≤ c → countsFrom c (drop c (take count size)) h ≡ h
+pub counts_end : (size : List ℕ) (count c : ℕ) (h : Counts) → count ≤ c → counts_from c (drop c (take count size)) h ≡ h
 counts_end size count c h l =
     let past : length (take count size) ≤ c = omega (arith, length-take count size) in
-    ap (λ (ss : List ℕ). countsFrom c ss h) (drop_of_length-le (take count size) past)
+    ap (λ (ss : List ℕ). counts_from c ss h) (drop_of_length-le (take count size) past)
 
 module _ (start coordinate component place : List ℕ) where
-  pub placed-more : (n : ℕ) (now groups : List ℕ) → now ≡ placedUpTo start coordinate component place n groups
-      → set now (word_at start coordinate component place n) (get_or coordinate n 0) ≡ placedUpTo start coordinate component place (n + 1) groups
-  placed-more n now groups e =
+  pub placed_more : (n : ℕ) (now groups : List ℕ) → now ≡ placed_up_to start coordinate component place n groups
+      → set now (word_at start coordinate component place n) (get_or coordinate n 0) ≡ placed_up_to start coordinate component place (n + 1) groups
+  placed_more n now groups e =
       ap (λ (l : List ℕ). set l (word_at start coordinate component place n) (get_or coordinate n 0)) e
-      ∙ ap (λ (k : ℕ). placedUpTo start coordinate component place k groups) (sym (add-one n))
+      ∙ ap (λ (k : ℕ). placed_up_to start coordinate component place k groups) (sym (add-one n))

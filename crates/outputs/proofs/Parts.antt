@@ -8,8 +8,8 @@ use lib.Seq.{take_all, drop-drop}
 use borrow.Rule.Slice.PartMut.{put_mid}
 use Rattle.outputs.specs.Buffers.{patch}
 
-pub part-written : (at n : ℕ) (ws xs ys : List ℕ) → length ws ≡ n → ys ≡ ws ++ drop n (take (length xs - at) (drop at xs)) → put_mid at (length xs - at) xs ys ≡ patch at ws xs
-part-written at n ws xs ys l e =
+pub part_written : (at n : ℕ) (ws xs ys : List ℕ) → length ws ≡ n → ys ≡ ws ++ drop n (take (length xs - at) (drop at xs)) → put_mid at (length xs - at) xs ys ≡ patch at ws xs
+part_written at n ws xs ys l e =
     let rest = length-drop at xs in
     let whole = take_all (length xs - at) (drop at xs) (omega arith) in
     let none = drop_of_length-le (drop at xs) {i = length xs - at} (omega arith) in

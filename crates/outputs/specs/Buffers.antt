@@ -17,19 +17,19 @@ pub record Counts : Type 0 where
   pub used : ℕ
 
 -- the components of these sizes, of which the first has the number c: those with no members have no group
-abbrev pub countsFrom : ℕ → List ℕ → Counts → Counts
-countsFrom c [] h = h
-countsFrom c (s ∷ ss) h =
-    countsFrom (suc c) ss
+abbrev pub counts_from : ℕ → List ℕ → Counts → Counts
+counts_from c [] h = h
+counts_from c (s ∷ ss) h =
+    counts_from (suc c) ss
     (cond (eqb s 0) h (record { groups = set h.groups h.used s; start = set h.start c (suc h.used); used = h.used + suc s }))
 
-unfoldable pub countsOf : List ℕ → List ℕ → Counts
-countsOf size groups = countsFrom 0 size (record { groups = groups; start = replicate 512 0; used = 0 })
+unfoldable pub counts_of : List ℕ → List ℕ → Counts
+counts_of size groups = counts_from 0 size (record { groups = groups; start = replicate 512 0; used = 0 })
 
 -- the groups fit the buffer, and their places fit the starts
 pub record CountsFit (size groups : List ℕ) : Type 0 where
-  pub fit : (countsOf size groups).used ≤ length groups
-  pub small : (countsOf size groups).used ≤ 65535
+  pub fit : (counts_of size groups).used ≤ length groups
+  pub small : (counts_of size groups).used ≤ 65535
 
 module _ (start coordinate component place : List ℕ) where
   -- the word of the coordinate at an active position
@@ -37,9 +37,9 @@ module _ (start coordinate component place : List ℕ) where
   word_at p = get_or start (get_or component p 0) 0 + get_or place p 0
 
   -- the groups' words with the coordinates at the first n positions
-  abbrev pub placedUpTo : ℕ → List ℕ → List ℕ
-  placedUpTo zero groups = groups
-  placedUpTo (suc n) groups = set (placedUpTo n groups) (word_at n) (get_or coordinate n 0)
+  abbrev pub placed_up_to : ℕ → List ℕ → List ℕ
+  placed_up_to zero groups = groups
+  placed_up_to (suc n) groups = set (placed_up_to n groups) (word_at n) (get_or coordinate n 0)
 
 -- the coordinates at the first n positions have their words inside the buffer
 pub record PlacesFit (start component place : List ℕ) (n words : ℕ) : Type 0 where

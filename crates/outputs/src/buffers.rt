@@ -1,7 +1,7 @@
 // The lent buffers other than rows: zeros behind the used words, the longest sizes and what they allocate, and the groups.
 ghost use Rattle.std.specs.Prelude.{◌≡◌, ◌++◌, ◌+◌, ◌-◌, ◌^◌, ◌≤◌, ◌<◌, max, min, length, get_or, set, take, drop, replicate};
-ghost use Rattle.definition.specs.Components.{allocatedFor};
-ghost use Rattle.outputs.specs.Buffers.{AllBelow, countsOf, CountsFit, placedUpTo, PlacesFit};
+ghost use Rattle.definition.specs.Components.{allocated_for};
+ghost use Rattle.outputs.specs.Buffers.{AllBelow, counts_of, CountsFit, placed_up_to, PlacesFit};
 
 // Zeroes the words from a place on.
 pub fn clear_from(words: &mut [u64], from: usize)
@@ -46,7 +46,7 @@ fn saturating_add(a: u64, b: u64) -> u64
 // The sum of 2 to the power of each size, or the largest word where that is smaller.
 pub fn allocated(sizes: &[u64]) -> u64
     requires { AllBelow 64 sizes.now }
-    ensures { result ≡ allocatedFor sizes.now }
+    ensures { result ≡ allocated_for sizes.now }
 {
     let mut sum: u64 = 0;
     let mut i: usize = 0;
@@ -69,9 +69,9 @@ pub struct Starts {
 pub fn write_counts(size: &[u8; 512], count: usize, groups: &mut [u64]) -> Starts
     requires fact_1 { CountsFit (take count size.now) groups.old }
     requires fact_2 { count ≤ 512 }
-    ensures { (result.start ≡ (countsOf (take count size.now) groups.old).start)
-        × (result.used ≡ (countsOf (take count size.now) groups.old).used)
-        × (groups.new ≡ (countsOf (take count size.now) groups.old).groups) }
+    ensures { (result.start ≡ (counts_of (take count size.now) groups.old).start)
+        × (result.used ≡ (counts_of (take count size.now) groups.old).used)
+        × (groups.new ≡ (counts_of (take count size.now) groups.old).groups) }
 {
     let mut start = [0u16; 512];
     let mut used: usize = 0;
@@ -105,7 +105,7 @@ pub fn write_members<'a>(
     groups: &mut [u64],
 )
     requires { PlacesFit start component.now place.now width (length groups.old) }
-    ensures { groups.new ≡ placedUpTo start coordinate.now component.now place.now width groups.old }
+    ensures { groups.new ≡ placed_up_to start coordinate.now component.now place.now width groups.old }
 {
     let mut p: usize = 0;
     while p < width {

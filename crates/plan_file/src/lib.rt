@@ -3,7 +3,7 @@
 ghost use Rattle.std.specs.Prelude.{◌≡◌, ◌+◌, ◌*◌, ◌≤◌, ◌<◌, ◌^◌, length};
 ghost use Rattle.definition.specs.Plan.{padded};
 ghost use Rattle.stored_plan.specs.Stored.{bytes_of};
-ghost use Rattle.plan_file.specs.Writing.{scalarsIn, wordsFor, trailerFor};
+ghost use Rattle.plan_file.specs.Writing.{scalars_in, words_for, trailer_for};
 
 use answer::ActiveComponentPlan;
 use file_words::{clear_bytes, put_words};
@@ -12,7 +12,7 @@ use rows::{flag_word, float_bits};
 
 // The words of the eight scalar fields.
 fn scalar_words(plan: ActiveComponentPlan) -> [u64; 8]
-    ensures { result ≡ scalarsIn plan }
+    ensures { result ≡ scalars_in plan }
 {
     [
         flag_word(plan.selected),
@@ -28,8 +28,8 @@ fn scalar_words(plan: ActiveComponentPlan) -> [u64; 8]
 
 // How many words a file has.
 pub fn word_count(used: WordCounts) -> usize
-    requires { wordsFor used < 2 ^ 64 }
-    ensures { result ≡ wordsFor used }
+    requires { words_for used < 2 ^ 64 }
+    ensures { result ≡ words_for used }
 {
     used.steps
         + used.merges
@@ -42,8 +42,8 @@ pub fn word_count(used: WordCounts) -> usize
 
 // The sixteen words of the trailer.
 fn trailer_words(used: WordCounts) -> [u64; 16]
-    requires { 8 * wordsFor used < 2 ^ 64 }
-    ensures { result ≡ trailerFor used }
+    requires { 8 * words_for used < 2 ^ 64 }
+    ensures { result ≡ trailer_for used }
 {
     let merges = used.steps;
     let sizes = merges + used.merges;
@@ -83,7 +83,7 @@ pub fn write_file<'a>(
     file: &mut [u8],
 )
     requires { 8 * (length steps.now + length merges.now + length sizes.now + length rotations.now + length promotions.now + length measurements.now + 24) ≤ length file.old }
-    ensures { file.new ≡ padded (length file.old) (bytes_of (record { steps = steps.entry.now; merges = merges.now; sizes = sizes.now; rotations = rotations.now; promotions = promotions.now; measurements = measurements.now; scalars = scalarsIn plan })) }
+    ensures { file.new ≡ padded (length file.old) (bytes_of (record { steps = steps.entry.now; merges = merges.now; sizes = sizes.now; rotations = rotations.now; promotions = promotions.now; measurements = measurements.now; scalars = scalars_in plan })) }
 {
     let used = WordCounts {
         steps: steps.len(),

@@ -7,28 +7,28 @@ use Rattle.kernels.specs.declared.active.PrecomputedActivePauliRotationKernel.{P
 use Rattle.kernels.specs.declared.active.PrecomputedActivePauliMeasurementKernel.{PrecomputedActivePauliMeasurementKernel}
 use Rattle.records.specs.declared.Instruction.{Instruction}
 use Rattle.records.specs.declared.Instruction.TheVariants.{Rotation, Promotion, RecordMeasurement, RecordDetector, Measurement, Expectation, DormantBranch}
-use Rattle.definition.specs.Lists.{place_of, removeAt}
-use Rattle.definition.specs.Walk.{Walk, Join, join_of, localAction}
+use Rattle.definition.specs.Lists.{place_of, remove_at}
+use Rattle.definition.specs.Walk.{Walk, Join, join_of, local_action}
 use Rattle.walk.specs.Walking.{Buffers}
 use Rattle.readers.specs.declared.RotationRow.{RotationRow}
 use Rattle.readers.specs.declared.MeasurementRow.{MeasurementRow}
-use Rattle.readers.specs.Reading.{part_of, stepAt, rotationAt, measurementAt}
+use Rattle.readers.specs.Reading.{part_of, step_at, rotation_at, measurement_at}
 
 -- step i has this kind and payload
 abbrev pub StepIs : Buffers → ℕ → ℕ → ℕ → Type 0
-StepIs b i kind payload = stepAt b.steps i ≡ some (record { kind = kind; payload = payload })
+StepIs b i kind payload = step_at b.steps i ≡ some (record { kind = kind; payload = payload })
 
 -- the rows of a rotation and of a measurement with this join and kernel; "An emptied component is deactivated"
-abbrev pub rotationOf : Walk → Join → PrecomputedActivePauliRotationKernel → RotationRow
-rotationOf w j k = record { component = j.component; merge_offset = length w.written.merges; merge_count = length j.sources; kernel = k }
+abbrev pub rotation_of : Walk → Join → PrecomputedActivePauliRotationKernel → RotationRow
+rotation_of w j k = record { component = j.component; merge_offset = length w.written.merges; merge_count = length j.sources; kernel = k }
 
-abbrev pub measurementOf : Walk → Join → PrecomputedActivePauliMeasurementKernel → MeasurementRow
-measurementOf w j k = record {
+abbrev pub measurement_of : Walk → Join → PrecomputedActivePauliMeasurementKernel → MeasurementRow
+measurement_of w j k = record {
   component = j.component;
   merge_offset = length w.written.merges;
   merge_count = length j.sources;
   kernel = k;
-  deactivate_after = eqb (length (removeAt k.pivot j.members)) 0;
+  deactivate_after = eqb (length (remove_at k.pivot j.members)) 0;
 }
 
 -- a record that joins: its step has the kind and the row's number, the row read at that number is that of the definition's kernel, and the row's part of the merge list is
@@ -42,22 +42,22 @@ pub record JoinBack {K R : Type 0} (b : Buffers) (i kind number : ℕ) (w : Walk
 
 -- a rotation, where coordinates are active
 abbrev pub RotationBack : Buffers → ℕ → Walk → Join → Answer PrecomputedActivePauliRotationKernel → Type 0
-RotationBack b i w j answer = let number = length w.written.rotations in JoinBack b i 2 number w j answer rotationOf (rotationAt b.rotations number)
+RotationBack b i w j answer = let number = length w.written.rotations in JoinBack b i 2 number w j answer rotation_of (rotation_at b.rotations number)
 
 -- a measurement
 abbrev pub MeasurementBack : Buffers → ℕ → Walk → Join → Answer PrecomputedActivePauliMeasurementKernel → Type 0
 MeasurementBack b i w j answer =
-    let number = length w.written.measurements in JoinBack b i 4 number w j answer measurementOf (measurementAt b.measurements number)
+    let number = length w.written.measurements in JoinBack b i 4 number w j answer measurement_of (measurement_at b.measurements number)
 
 -- what the buffers give back for record i, an instruction that the walk comes to in state w
 abbrev pub GivenBack : ℕ → Walk → Instruction → ℕ → Buffers → Type 0
 GivenBack limit w (Rotation width x z phase angle sine cosine) i b =
     let j = join_of x z w in
     (w.order ≡ [] → StepIs b i 1 0)
-    × (0 < length w.order → RotationBack b i w j (rotation limit (localAction x z phase w j) phase angle sine cosine))
+    × (0 < length w.order → RotationBack b i w j (rotation limit (local_action x z phase w j) phase angle sine cosine))
 GivenBack limit w (Measurement width x z phase pivot) i b =
     let j = join_of x z w in
-    MeasurementBack b i w j (measurement limit (localAction x z phase w j) phase (place_of (get_or w.order pivot 0) j.members))
+    MeasurementBack b i w j (measurement limit (local_action x z phase w j) phase (place_of (get_or w.order pivot 0) j.members))
 GivenBack limit w Promotion i b =
     let number = length w.written.promotions in StepIs b i 3 number × (get_or b.promotions number 0 ≡ length w.components)
 GivenBack limit w RecordMeasurement i b = StepIs b i 0 0

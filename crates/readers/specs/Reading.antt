@@ -9,7 +9,7 @@ use Rattle.kernels.specs.declared.active.Complex64.{Complex64}
 use Rattle.kernels.specs.declared.active.ActivePauliAction.{ActivePauliAction}
 use Rattle.kernels.specs.declared.active.PrecomputedActivePauliRotationKernel.{PrecomputedActivePauliRotationKernel}
 use Rattle.kernels.specs.declared.active.PrecomputedActivePauliMeasurementKernel.{PrecomputedActivePauliMeasurementKernel}
-use Rattle.definition.specs.Lists.{numbersFrom}
+use Rattle.definition.specs.Lists.{numbers_from}
 use Rattle.readers.specs.declared.RotationRow.{RotationRow}
 use Rattle.readers.specs.declared.MeasurementRow.{MeasurementRow}
 use Rattle.readers.specs.declared.StepRead.{StepRead}
@@ -29,55 +29,55 @@ row_at n ws i = cond (leb (n * i + n) (length ws)) (some (take n (drop (n * i) w
 
 -- ---- values of words: "Flags are 0 or 1, floats stand as their bits". A flag above 1 counts as set, and a NaN pattern is the one NaN
 
-abbrev pub flagIn : ℕ → Bool
-flagIn w = not (eqb w 0)
+abbrev pub flag_in : ℕ → Bool
+flag_in w = not (eqb w 0)
 
-abbrev pub complexIn : ℕ → ℕ → Complex64
-complexIn a b = complex (of_bits binary64 a) (of_bits binary64 b)
+abbrev pub complex_in : ℕ → ℕ → Complex64
+complex_in a b = complex (of_bits binary64 a) (of_bits binary64 b)
 
 -- "local width, x and z, even, odd (two each), overlap"
-abbrev pub actionIn : List ℕ → ActivePauliAction
-actionIn ws = record {
+abbrev pub action_in : List ℕ → ActivePauliAction
+action_in ws = record {
   nqubits = get_or ws 3 0;
   xmask = get_or ws 4 0;
   zmask = get_or ws 5 0;
-  even_phase = complexIn (get_or ws 6 0) (get_or ws 7 0);
-  odd_phase = complexIn (get_or ws 8 0) (get_or ws 9 0);
-  xz_overlap_odd = flagIn (get_or ws 10 0);
+  even_phase = complex_in (get_or ws 6 0) (get_or ws 7 0);
+  odd_phase = complex_in (get_or ws 8 0) (get_or ws 9 0);
+  xz_overlap_odd = flag_in (get_or ws 10 0);
 }
 
 -- "component, merge offset, merge count" and the kernel: "diagonal, uniform, flip, pair bit, pair count, angle, cosine, sine, coefficient (two)". The row of no words is all zero
-unfoldable pub rotationIn : List ℕ → RotationRow
+unfoldable pub rotation_in : List ℕ → RotationRow
 unfolding of_bits
-rotationIn ws =
+rotation_in ws =
     let kernel : PrecomputedActivePauliRotationKernel = record {
-      action = actionIn ws;
-      is_diagonal = flagIn (get_or ws 11 0);
-      uniform_imag_pairs = flagIn (get_or ws 12 0);
-      real_pair_flip = flagIn (get_or ws 13 0);
+      action = action_in ws;
+      is_diagonal = flag_in (get_or ws 11 0);
+      uniform_imag_pairs = flag_in (get_or ws 12 0);
+      real_pair_flip = flag_in (get_or ws 13 0);
       pair_bit = get_or ws 14 0;
       pair_count = get_or ws 15 0;
       kernel_angle = of_bits binary64 (get_or ws 16 0);
       cos_kernel_angle = of_bits binary64 (get_or ws 17 0);
       sin_kernel_angle = of_bits binary64 (get_or ws 18 0);
-      minus_even_coefficient = complexIn (get_or ws 19 0) (get_or ws 20 0);
+      minus_even_coefficient = complex_in (get_or ws 19 0) (get_or ws 20 0);
     } in
     record { component = get_or ws 0 0; merge_offset = get_or ws 1 0; merge_count = get_or ws 2 0; kernel = kernel }
 
 -- "the same first eleven, pivot, diagonal, phase bit, z-without-pivot, out dimension, coefficient (two), deactivated"
-unfoldable pub measurementIn : List ℕ → MeasurementRow
+unfoldable pub measurement_in : List ℕ → MeasurementRow
 unfolding of_bits
-measurementIn ws =
+measurement_in ws =
     let kernel : PrecomputedActivePauliMeasurementKernel = record {
-      action = actionIn ws;
+      action = action_in ws;
       pivot = get_or ws 11 0;
-      is_diagonal = flagIn (get_or ws 12 0);
+      is_diagonal = flag_in (get_or ws 12 0);
       diagonal_phase_bit = get_or ws 13 0;
       z_without_pivot = get_or ws 14 0;
       out_dim = get_or ws 15 0;
-      nondiagonal_coefficient1_even = complexIn (get_or ws 16 0) (get_or ws 17 0);
+      nondiagonal_coefficient1_even = complex_in (get_or ws 16 0) (get_or ws 17 0);
     } in
-    record { component = get_or ws 0 0; merge_offset = get_or ws 1 0; merge_count = get_or ws 2 0; kernel = kernel; deactivate_after = flagIn (get_or ws 18 0) }
+    record { component = get_or ws 0 0; merge_offset = get_or ws 1 0; merge_count = get_or ws 2 0; kernel = kernel; deactivate_after = flag_in (get_or ws 18 0) }
 
 -- ---- by number: the step or the row, and none past the end
 
@@ -86,34 +86,34 @@ pub record Step : Type 0 where
   pub kind : ℕ
   pub payload : ℕ
 
-abbrev pub stepIn : List ℕ → Step
-stepIn ws = record { kind = get_or ws 0 0; payload = get_or ws 1 0 }
+abbrev pub step_in : List ℕ → Step
+step_in ws = record { kind = get_or ws 0 0; payload = get_or ws 1 0 }
 
-abbrev pub stepAt : List ℕ → ℕ → Option Step
-stepAt ws i = Option.map stepIn (row_at 2 ws i)
+abbrev pub step_at : List ℕ → ℕ → Option Step
+step_at ws i = Option.map step_in (row_at 2 ws i)
 
-abbrev pub stepReadOf : StepRead → Option Step
-stepReadOf (S.Step kind payload) = some (record { kind = kind; payload = payload })
-stepReadOf S.PastEnd = none
+abbrev pub step_read_of : StepRead → Option Step
+step_read_of (S.Step kind payload) = some (record { kind = kind; payload = payload })
+step_read_of S.PastEnd = none
 
-abbrev pub rotationAt : List ℕ → ℕ → Option RotationRow
-rotationAt ws i = Option.map rotationIn (row_at 21 ws i)
+abbrev pub rotation_at : List ℕ → ℕ → Option RotationRow
+rotation_at ws i = Option.map rotation_in (row_at 21 ws i)
 
-abbrev pub rotationReadOf : RotationRead → Option RotationRow
-rotationReadOf (R.Row r) = some r
-rotationReadOf R.PastEnd = none
+abbrev pub rotation_read_of : RotationRead → Option RotationRow
+rotation_read_of (R.Row r) = some r
+rotation_read_of R.PastEnd = none
 
-abbrev pub measurementAt : List ℕ → ℕ → Option MeasurementRow
-measurementAt ws i = Option.map measurementIn (row_at 19 ws i)
+abbrev pub measurement_at : List ℕ → ℕ → Option MeasurementRow
+measurement_at ws i = Option.map measurement_in (row_at 19 ws i)
 
-abbrev pub measurementReadOf : MeasurementRead → Option MeasurementRow
-measurementReadOf (M.Row r) = some r
-measurementReadOf M.PastEnd = none
+abbrev pub measurement_read_of : MeasurementRead → Option MeasurementRow
+measurement_read_of (M.Row r) = some r
+measurement_read_of M.PastEnd = none
 
 -- ---- "rotation rows are also filled into a lent slice of row structs, with the same values; a short slice is filled to its end, and surplus structs are all zero"
 
-abbrev pub rotationOrZero : List ℕ → ℕ → RotationRow
-rotationOrZero ws i = Option.get_or (rotationAt ws i) (rotationIn [])
+abbrev pub rotation_or_zero : List ℕ → ℕ → RotationRow
+rotation_or_zero ws i = Option.get_or (rotation_at ws i) (rotation_in [])
 
-abbrev pub filledRows : ℕ → List ℕ → List RotationRow
-filledRows n ws = map (rotationOrZero ws) (numbersFrom 0 n)
+abbrev pub filled_rows : ℕ → List ℕ → List RotationRow
+filled_rows n ws = map (rotation_or_zero ws) (numbers_from 0 n)

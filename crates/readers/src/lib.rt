@@ -1,6 +1,6 @@
 // Readers of a plan: a row's sources as a part of the merge list, the steps, and the rows as structs.
 ghost use Rattle.std.specs.Prelude.{◌≡◌, ◌≤◌, length};
-ghost use Rattle.readers.specs.Reading.{part_of, flagIn, complexIn, actionIn, rotationIn, measurementIn, stepAt, stepReadOf, rotationAt, rotationReadOf, rotationOrZero, measurementAt, measurementReadOf, filledRows};
+ghost use Rattle.readers.specs.Reading.{part_of, flag_in, complex_in, action_in, rotation_in, measurement_in, step_at, step_read_of, rotation_at, rotation_read_of, rotation_or_zero, measurement_at, measurement_read_of, filled_rows};
 
 use kernels::active::{
     ActivePauliAction, Complex64, PrecomputedActivePauliMeasurementKernel,
@@ -67,7 +67,7 @@ pub fn merge_sources(merges: &[u64], offset: u64, count: u64) -> &[u64]
 
 // Kind and payload of a record's step.
 pub fn read_step(steps: &[u64], number: u64) -> StepRead
-    ensures { stepReadOf result ≡ stepAt steps.now number }
+    ensures { step_read_of result ≡ step_at steps.now number }
 {
     let i = number as usize;
     if steps.len() / 2 <= i {
@@ -81,14 +81,14 @@ pub fn read_step(steps: &[u64], number: u64) -> StepRead
 
 // Whether a flag's word is set.
 fn flag_of(word: u64) -> bool
-    ensures { result ≡ flagIn word }
+    ensures { result ≡ flag_in word }
 {
     word != 0
 }
 
 // The complex number of two words.
 fn complex_of(re: u64, im: u64) -> Complex64
-    ensures { result ≡ complexIn re im }
+    ensures { result ≡ complex_in re im }
 {
     Complex64 {
         re: float_of(re),
@@ -99,7 +99,7 @@ fn complex_of(re: u64, im: u64) -> Complex64
 // The action that a row's first eleven words say.
 fn action_of(row: &[u64]) -> ActivePauliAction
     requires { 11 ≤ length row.now }
-    ensures { result ≡ actionIn row.now }
+    ensures { result ≡ action_in row.now }
 {
     ActivePauliAction {
         nqubits: row[3],
@@ -114,7 +114,7 @@ fn action_of(row: &[u64]) -> ActivePauliAction
 // The rotation row of 21 words.
 fn rotation_of(row: &[u64]) -> RotationRow
     requires { 21 ≤ length row.now }
-    ensures { result ≡ rotationIn row.now }
+    ensures { result ≡ rotation_in row.now }
 {
     let kernel = PrecomputedActivePauliRotationKernel {
         action: action_of(row),
@@ -139,7 +139,7 @@ fn rotation_of(row: &[u64]) -> RotationRow
 // The measurement row of 19 words.
 fn measurement_of(row: &[u64]) -> MeasurementRow
     requires { 19 ≤ length row.now }
-    ensures { result ≡ measurementIn row.now }
+    ensures { result ≡ measurement_in row.now }
 {
     let kernel = PrecomputedActivePauliMeasurementKernel {
         action: action_of(row),
@@ -161,7 +161,7 @@ fn measurement_of(row: &[u64]) -> MeasurementRow
 
 // Rotation row of a number.
 pub fn read_rotation(rotations: &[u64], number: u64) -> RotationRead
-    ensures { rotationReadOf result ≡ rotationAt rotations.now number }
+    ensures { rotation_read_of result ≡ rotation_at rotations.now number }
 {
     let i = number as usize;
     if rotations.len() / 21 <= i {
@@ -174,7 +174,7 @@ pub fn read_rotation(rotations: &[u64], number: u64) -> RotationRead
 
 // Measurement row of a number.
 pub fn read_measurement(measurements: &[u64], number: u64) -> MeasurementRead
-    ensures { measurementReadOf result ≡ measurementAt measurements.now number }
+    ensures { measurement_read_of result ≡ measurement_at measurements.now number }
 {
     let i = number as usize;
     if measurements.len() / 19 <= i {
@@ -187,7 +187,7 @@ pub fn read_measurement(measurements: &[u64], number: u64) -> MeasurementRead
 
 // Rotation row i, or the row of zeros past the last whole row.
 fn rotation_or_zero(rotations: &[u64], i: usize) -> RotationRow
-    ensures { result ≡ rotationOrZero rotations.now i }
+    ensures { result ≡ rotation_or_zero rotations.now i }
 {
     let read = read_rotation(rotations, i as u64);
     match read {
@@ -201,7 +201,7 @@ fn rotation_or_zero(rotations: &[u64], i: usize) -> RotationRow
 
 // Fills a lent slice of row structs: struct i has the values of row i, and a struct past the last row is all zero.
 pub fn fill_rotation_rows(rotations: &[u64], rows: &mut [RotationRow])
-    ensures { rows.new ≡ filledRows (length rows.old) rotations.now }
+    ensures { rows.new ≡ filled_rows (length rows.old) rotations.now }
 {
     let mut i = 0;
     while i < rows.len() {

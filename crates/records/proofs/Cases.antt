@@ -5,20 +5,20 @@ use mathlib.Core.List.{List, [], ◌∷◌, ◌++◌, map}
 use Prim.Native.Nat.{ℕ, ◌+◌, ◌-◌, ◌^◌}
 use Rattle.records.specs.declared.Checked.{Checked}
 use Rattle.records.specs.declared.Checked.TheVariants.{Passed, Refused}
-use Rattle.records.specs.Pass.{recordPass}
+use Rattle.records.specs.Pass.{record_pass}
 
 -- floats by their bits: 1, the next float above 1, infinity and a NaN; with `sign` added, the negative ones, and -0 alone
 abbrev one : ℕ
 one = 0x3ff0_0000_0000_0000
 
-abbrev above-one : ℕ
-above-one = 0x3ff0_0000_0000_0001
+abbrev above_one : ℕ
+above_one = 0x3ff0_0000_0000_0001
 
 abbrev infinite : ℕ
 infinite = 0x7ff0_0000_0000_0000
 
-abbrev not-number : ℕ
-not-number = 0x7ff8_0000_0000_0000
+abbrev not_number : ℕ
+not_number = 0x7ff8_0000_0000_0000
 
 abbrev sign : ℕ
 sign = 0x8000_0000_0000_0000
@@ -34,12 +34,12 @@ abbrev other : (kind : ℕ) → List ℕ
 other kind = kind ∷ 99 ∷ 0 ∷ 0 ∷ 99 ∷ 0 ∷ 99 ∷ 0 ∷ []
 
 record Case : Type 0 where
-  initial-k : ℕ
+  initial_k : ℕ
   words : List ℕ
   answer : Checked
 
 abbrev case : ℕ → List ℕ → Checked → Case
-case k ws a = record { initial-k = k; words = ws; answer = a }
+case k ws a = record { initial_k = k; words = ws; answer = a }
 
 abbrev cases : List Case
 cases =
@@ -59,15 +59,15 @@ cases =
     -- 8: angle, sine and cosine, after 7
     ∷ case 0 (rotation 0 0 infinite 0 one) (Refused 8 0)
     ∷ case 0 (rotation 0 0 (sign + infinite) 0 one) (Refused 8 0)
-    ∷ case 0 (rotation 0 0 not-number 0 one) (Refused 8 0)
+    ∷ case 0 (rotation 0 0 not_number 0 one) (Refused 8 0)
     ∷ case 0 (rotation 0 0 (infinite - 1) 0 one) Passed
     ∷ case 0 (rotation 0 0 0 one (sign + one)) Passed
     ∷ case 0 (rotation 0 0 0 (sign + one) one) Passed
     ∷ case 0 (rotation 0 0 0 sign one) Passed
-    ∷ case 0 (rotation 0 0 0 above-one 0) (Refused 8 0)
-    ∷ case 0 (rotation 0 0 0 0 (sign + above-one)) (Refused 8 0)
-    ∷ case 0 (rotation 0 0 0 not-number one) (Refused 8 0)
-    ∷ case 0 (rotation 0 0 0 0 not-number) (Refused 8 0)
+    ∷ case 0 (rotation 0 0 0 above_one 0) (Refused 8 0)
+    ∷ case 0 (rotation 0 0 0 0 (sign + above_one)) (Refused 8 0)
+    ∷ case 0 (rotation 0 0 0 not_number one) (Refused 8 0)
+    ∷ case 0 (rotation 0 0 0 0 not_number) (Refused 8 0)
     ∷ case 0 (rotation 0 4 infinite 0 one) (Refused 7 0)
     -- 9: flag, before 6
     ∷ case 0 (measurement 63 0 2) (Refused 9 0)
@@ -85,6 +85,6 @@ cases =
     ∷ case 0 [] Passed
     ∷ []
 
-answered : map (λ (c : Case). recordPass c.initial-k c.words) cases ≡ map (λ (c : Case). c.answer) cases
-unfolding recordPass
+answered : map (λ (c : Case). record_pass c.initial_k c.words) cases ≡ map (λ (c : Case). c.answer) cases
+unfolding record_pass
 answered = refl

@@ -11,37 +11,37 @@ use mathlib.Core.Bool.{Bool, true, false, cond}
 use lib.Dec.{ltb}
 use Rattle.records.specs.declared.Checked.{Checked}
 use Rattle.records.specs.declared.Checked.TheVariants.{Passed, Refused}
-use Rattle.records.specs.Record.{kind, recordAt, recordsOf}
-use Rattle.records.specs.Pass.{number_of, promotionNumber, coordinatesAfter, refusedOr, passFrom, recordPass}
-use Rattle.records.proofs.Words.{records-length, records-drop}
+use Rattle.records.specs.Record.{kind, record_at, records_of}
+use Rattle.records.specs.Pass.{number_of, promotion_number, coordinates_after, refused_or, pass_from, record_pass}
+use Rattle.records.proofs.Words.{records_length, records_drop}
 
-pub pass-start : (k : ℕ) (ws : List ℕ) → recordPass k ws ≡ passFrom 0 k (recordsOf ws)
-unfolding recordPass
-pass-start k ws = refl
+pub pass_start : (k : ℕ) (ws : List ℕ) → record_pass k ws ≡ pass_from 0 k (records_of ws)
+unfolding record_pass
+pass_start k ws = refl
 
 pub pass_step : (i c : ℕ) (ws : List ℕ) → i < length ws / 8
-    → passFrom i c (drop i (recordsOf ws)) ≡ refusedOr (number_of c (recordAt ws i)) i (passFrom (suc i) (coordinatesAfter c (recordAt ws i)) (drop (suc i) (recordsOf ws)))
-unfolding passFrom
-pass_step i c ws h = ap (passFrom i c) (records-drop ws i h)
+    → pass_from i c (drop i (records_of ws)) ≡ refused_or (number_of c (record_at ws i)) i (pass_from (suc i) (coordinates_after c (record_at ws i)) (drop (suc i) (records_of ws)))
+unfolding pass_from
+pass_step i c ws h = ap (pass_from i c) (records_drop ws i h)
 
-pub pass-end : (i c : ℕ) (ws : List ℕ) → length ws / 8 ≤ i → passFrom i c (drop i (recordsOf ws)) ≡ Passed
-unfolding passFrom
-pass-end i c ws h = ap (passFrom i c) (drop_of_length-le (recordsOf ws) {i = i} (rw records-length h))
+pub pass_end : (i c : ℕ) (ws : List ℕ) → length ws / 8 ≤ i → pass_from i c (drop i (records_of ws)) ≡ Passed
+unfolding pass_from
+pass_end i c ws h = ap (pass_from i c) (drop_of_length-le (records_of ws) {i = i} (rw records_length h))
 
-pub refused : (n i : ℕ) (rest : Checked) → (n ≡ 0 → ⊥) → refusedOr n i rest ≡ Refused n i
-unfolding refusedOr
+pub refused : (n i : ℕ) (rest : Checked) → (n ≡ 0 → ⊥) → refused_or n i rest ≡ Refused n i
+unfolding refused_or
 refused zero i rest h = absurd (h refl)
 refused (suc n) i rest h = refl
 
-pub passed : (n i : ℕ) (rest : Checked) → n ≡ 0 → refusedOr n i rest ≡ rest
-unfolding refusedOr
-passed n i rest h = ap (λ (m : ℕ). refusedOr m i rest) h
+pub passed : (n i : ℕ) (rest : Checked) → n ≡ 0 → refused_or n i rest ≡ rest
+unfolding refused_or
+passed n i rest h = ap (λ (m : ℕ). refused_or m i rest) h
 
-pub after-promotion : (c : ℕ) (r : List ℕ) → kind r ≡ 1 → coordinatesAfter c r ≡ c + 1
-after-promotion c r h = ap (λ (b : Bool). cond b (suc c) c) (eq-eqb (kind r) 1 h) ∙ sym (add-one c)
+pub after_promotion : (c : ℕ) (r : List ℕ) → kind r ≡ 1 → coordinates_after c r ≡ c + 1
+after_promotion c r h = ap (λ (b : Bool). cond b (suc c) c) (eq-eqb (kind r) 1 h) ∙ sym (add-one c)
 
-pub after-other : (c : ℕ) (r : List ℕ) → (kind r ≡ 1 → ⊥) → coordinatesAfter c r ≡ c
-after-other c r h = ap (λ (b : Bool). cond b (suc c) c) (ne_eqb (kind r) 1 h)
+pub after_other : (c : ℕ) (r : List ℕ) → (kind r ≡ 1 → ⊥) → coordinates_after c r ≡ c
+after_other c r h = ap (λ (b : Bool). cond b (suc c) c) (ne_eqb (kind r) 1 h)
 
 -- a choice between 0 and another number that came out as 0
 pub cond-true : (b : Bool) (n : ℕ) → cond b 0 (suc n) ≡ 0 → b ≡ true
@@ -54,14 +54,14 @@ cond-false false n m e = (refl, e)
 
 -- a promotion that passes finds fewer than 512 coordinates
 pub room : (c : ℕ) (r : List ℕ) → number_of c r ≡ 0 → kind r ≡ 1 → c < 512
-unfolding number_of promotionNumber
+unfolding number_of promotion_number
 room c r e k = ltb-true c 512 (cond-true (ltb c 512) 9 (rw k at e))
 
 -- Record i of the words, with c coordinates before it and the number n, and all records before it passed
-module _ (k : ℕ) (ws : List ℕ) (i c n : ℕ) (h : i < length ws / 8) (so_far : recordPass k ws ≡ passFrom i c (drop i (recordsOf ws)))
-    (number : n ≡ number_of c (recordAt ws i)) where
-  pub decides : (n ≡ 0 → ⊥) → Refused n i ≡ recordPass k ws
+module _ (k : ℕ) (ws : List ℕ) (i c n : ℕ) (h : i < length ws / 8) (so_far : record_pass k ws ≡ pass_from i c (drop i (records_of ws)))
+    (number : n ≡ number_of c (record_at ws i)) where
+  pub decides : (n ≡ 0 → ⊥) → Refused n i ≡ record_pass k ws
   decides refuses = sym (so_far ∙ pass_step i c ws h ∙ rw (← number) (refused n i _ refuses))
 
-  pub goes_on : n ≡ 0 → {c' : ℕ} → c' ≡ coordinatesAfter c (recordAt ws i) → recordPass k ws ≡ passFrom (i + 1) c' (drop (i + 1) (recordsOf ws))
+  pub goes_on : n ≡ 0 → {c' : ℕ} → c' ≡ coordinates_after c (record_at ws i) → record_pass k ws ≡ pass_from (i + 1) c' (drop (i + 1) (records_of ws))
   goes_on passes after = so_far ∙ pass_step i c ws h ∙ rw (← number, ← after, add-one) (passed n i _ passes)

@@ -16,11 +16,11 @@ kind r = word_of r 0
 abbrev pub width : List ℕ → ℕ
 width r = word_of r 1
 
-abbrev pub xMask : List ℕ → ℕ
-xMask r = word_of r 2
+abbrev pub x_mask : List ℕ → ℕ
+x_mask r = word_of r 2
 
-abbrev pub zMask : List ℕ → ℕ
-zMask r = word_of r 3
+abbrev pub z_mask : List ℕ → ℕ
+z_mask r = word_of r 3
 
 abbrev pub phase : List ℕ → ℕ
 phase r = word_of r 4
@@ -43,28 +43,28 @@ abbrev pub flag : List ℕ → ℕ
 flag r = word_of r 6
 
 -- Flag 0; "flag 1 leaves width, masks, phase and pivot unread". A flag above 1, which the record pass refuses, reads as 1.
-unfoldable pub measurementOf : List ℕ → Instruction
-measurementOf r = get_or (Measurement (width r) (xMask r) (zMask r) (phase r) (pivot r) ∷ []) (flag r) Expectation
+unfoldable pub measurement_of : List ℕ → Instruction
+measurement_of r = get_or (Measurement (width r) (x_mask r) (z_mask r) (phase r) (pivot r) ∷ []) (flag r) Expectation
 
 -- "Kinds: 0 rotation, 1 promotion, 2 record measurement, 3 record detector, 4 active measurement, 5 dormant branch". "Kinds 1, 2, 3, 5 read
 -- only the kind".
-abbrev pub instructionsByKind : List ℕ → List Instruction
-instructionsByKind r =
-    Rotation (width r) (xMask r) (zMask r) (phase r) (angle r) (sine r) (cosine r)
+abbrev pub instructions_by_kind : List ℕ → List Instruction
+instructions_by_kind r =
+    Rotation (width r) (x_mask r) (z_mask r) (phase r) (angle r) (sine r) (cosine r)
     ∷ Promotion
     ∷ RecordMeasurement
     ∷ RecordDetector
-    ∷ measurementOf r
+    ∷ measurement_of r
     ∷ DormantBranch
     ∷ []
 
 -- The instruction of the record's kind. A kind above 5, which the record pass refuses, reads as 5.
-unfoldable pub instructionOf : List ℕ → Instruction
-instructionOf r = get_or (instructionsByKind r) (kind r) DormantBranch
+unfoldable pub instruction_of : List ℕ → Instruction
+instruction_of r = get_or (instructions_by_kind r) (kind r) DormantBranch
 
 -- "A record is eight 64-bit words": record i of the words
-abbrev pub recordAt : List ℕ → ℕ → List ℕ
-recordAt ws i = take 8 (drop (8 * i) ws)
+abbrev pub record_at : List ℕ → ℕ → List ℕ
+record_at ws i = take 8 (drop (8 * i) ws)
 
 -- the first n records
 unfoldable pub chunks : ℕ → List ℕ → List (List ℕ)
@@ -72,10 +72,10 @@ chunks zero ws = []
 chunks (suc n) ws = take 8 ws ∷ chunks n (drop 8 ws)
 
 -- The whole records, in order. Words after the last whole record are in none.
-unfoldable pub recordsOf : List ℕ → List (List ℕ)
-recordsOf ws = chunks (length ws / 8) ws
+unfoldable pub records_of : List ℕ → List (List ℕ)
+records_of ws = chunks (length ws / 8) ws
 
 -- The instructions, in order. To unfold this name is to unfold all that it computes by.
-unfoldable pub instructionsOf : List ℕ → List Instruction
-unfolding recordsOf chunks instructionOf measurementOf of_bits
-instructionsOf ws = map instructionOf (recordsOf ws)
+unfoldable pub instructions_of : List ℕ → List Instruction
+unfolding records_of chunks instruction_of measurement_of of_bits
+instructions_of ws = map instruction_of (records_of ws)

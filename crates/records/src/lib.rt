@@ -4,8 +4,8 @@ ghost use Rattle.std.specs.Prelude.{◌≡◌, ◌<◌};
 ghost use Rattle.std.specs.Float.{binary64};
 ghost use Rattle.std.specs.Float.Ieee.{of_bits};
 ghost use Rattle.std.specs.Float.Ieee.Scale.{finite};
-ghost use Rattle.records.specs.Record.{word_of, recordAt, instructionOf, measurementOf};
-ghost use Rattle.records.specs.Pass.{withinOne, actionNumber, floatsNumber, rotationNumber, measurementNumber, number_of, recordPass};
+ghost use Rattle.records.specs.Record.{word_of, record_at, instruction_of, measurement_of};
+ghost use Rattle.records.specs.Pass.{within_one, action_number, floats_number, rotation_number, measurement_number, number_of, record_pass};
 
 // The head of a program (01, section 2; the ceiling: 02, CR 4).
 #[derive(Drop)]
@@ -52,7 +52,7 @@ pub enum Checked {
 // Word j of record i, and 0 past the end.
 fn word(words: &[u64], i: usize, j: usize) -> u64
     requires { j < 8 }
-    ensures { result ≡ word_of (recordAt words.now i) j }
+    ensures { result ≡ word_of (record_at words.now i) j }
 {
     if words.len() / 8 < i {
         return 0;
@@ -75,14 +75,14 @@ pub fn float_of(bits: u64) -> f64
 // The float of word j of record i.
 fn float_word(words: &[u64], i: usize, j: usize) -> f64
     requires { j < 8 }
-    ensures { result ≡ of_bits binary64 (word_of (recordAt words.now i) j) }
+    ensures { result ≡ of_bits binary64 (word_of (record_at words.now i) j) }
 {
     float_of(word(words, i, j))
 }
 
 // Record i, where its kind is a measurement's.
 fn read_measurement(words: &[u64], i: usize) -> Instruction
-    ensures { result ≡ measurementOf (recordAt words.now i) }
+    ensures { result ≡ measurement_of (record_at words.now i) }
 {
     if word(words, i, 6) == 0 {
         Instruction::Measurement {
@@ -99,7 +99,7 @@ fn read_measurement(words: &[u64], i: usize) -> Instruction
 
 // Record i, decoded. A word past the end counts as 0.
 pub fn read(words: &[u64], i: usize) -> Instruction
-    ensures { result ≡ instructionOf (recordAt words.now i) }
+    ensures { result ≡ instruction_of (record_at words.now i) }
 {
     let kind = word(words, i, 0);
     match kind {
@@ -129,14 +129,14 @@ fn is_finite(x: f64) -> bool
 
 // Whether x is in -1 to 1.
 fn within_one(x: f64) -> bool
-    ensures { result ≡ withinOne x }
+    ensures { result ≡ within_one x }
 {
     -1.0 <= x && x <= 1.0
 }
 
 // Refusal 6 or 7 of record i's width and phase, or 0.
 fn check_action(words: &[u64], i: usize) -> u64
-    ensures { result ≡ actionNumber (recordAt words.now i) }
+    ensures { result ≡ action_number (record_at words.now i) }
 {
     if 62 < word(words, i, 1) {
         return 6;
@@ -146,7 +146,7 @@ fn check_action(words: &[u64], i: usize) -> u64
 
 // Refusal 8 of record i's angle, sine and cosine, or 0.
 fn check_floats(words: &[u64], i: usize) -> u64
-    ensures { result ≡ floatsNumber (recordAt words.now i) }
+    ensures { result ≡ floats_number (record_at words.now i) }
 {
     if !is_finite(float_word(words, i, 5)) {
         return 8;
@@ -163,7 +163,7 @@ fn check_floats(words: &[u64], i: usize) -> u64
 
 // The refusal of record i, where its kind is a rotation's, or 0.
 fn check_rotation(words: &[u64], i: usize) -> u64
-    ensures { result ≡ rotationNumber (recordAt words.now i) }
+    ensures { result ≡ rotation_number (record_at words.now i) }
 {
     let number = check_action(words, i);
     if number == 0 {
@@ -175,7 +175,7 @@ fn check_rotation(words: &[u64], i: usize) -> u64
 
 // The refusal of record i, where its kind is a measurement's, or 0.
 fn check_measurement(words: &[u64], i: usize) -> u64
-    ensures { result ≡ measurementNumber (recordAt words.now i) }
+    ensures { result ≡ measurement_number (record_at words.now i) }
 {
     let expectation = word(words, i, 6);
     match expectation {
@@ -187,7 +187,7 @@ fn check_measurement(words: &[u64], i: usize) -> u64
 
 // The refusal of record i after so many coordinates, or 0.
 fn check_record(words: &[u64], i: usize, coordinates: u64) -> u64
-    ensures { result ≡ number_of coordinates (recordAt words.now i) }
+    ensures { result ≡ number_of coordinates (record_at words.now i) }
 {
     let kind = word(words, i, 0);
     match kind {
@@ -203,7 +203,7 @@ fn check_record(words: &[u64], i: usize, coordinates: u64) -> u64
 
 // The first refusal 5 to 10 with its record's index, over the whole records.
 pub fn check_records(words: &[u64], initial_k: u64) -> Checked
-    ensures { result ≡ recordPass initial_k words.now }
+    ensures { result ≡ record_pass initial_k words.now }
 {
     let count = words.len() / 8;
     let mut coordinates = initial_k;

@@ -9,14 +9,14 @@ use lib.ListN.{length, get_or, set, length-set, length-append, get_or-append}
 use lib.Seq.{get_or-set_same, get_or-set_other, get_or-append-add}
 use Rattle.definition.specs.Components.{members_of, size_of, gathered}
 use Rattle.definition.specs.Connectivity.{occurrences, Member, NoRepeats}
-use Rattle.definition.proofs.Counting.{same_or_not, one-here, none_here, member-head, member-tail, member-cons}
-use Rattle.state.specs.Steps.{Gathering, gatherFrom}
+use Rattle.definition.proofs.Counting.{same_or_not, one_here, none_here, member_head, member_tail, member_cons}
+use Rattle.state.specs.Steps.{Gathering, gather_from}
 
-once-head : (s : ℕ) (ss : List ℕ) → NoRepeats (s ∷ ss) → occurrences s ss ≡ 0
-once-head s ss once = let o = once s in let g = one-here s s ss refl in omega arith
+once_head : (s : ℕ) (ss : List ℕ) → NoRepeats (s ∷ ss) → occurrences s ss ≡ 0
+once_head s ss once = let o = once s in let g = one_here s s ss refl in omega arith
 
-once-tail : (s : ℕ) (ss : List ℕ) → NoRepeats (s ∷ ss) → NoRepeats ss
-once-tail s ss once c = let o = once c in omega arith
+once_tail : (s : ℕ) (ss : List ℕ) → NoRepeats (s ∷ ss) → NoRepeats ss
+once_tail s ss once c = let o = once c in omega arith
 
 apart : (c s : ℕ) (ss : List ℕ) → Member c ss → occurrences s ss ≡ 0 → c ≡ s → ⊥
 apart c s ss m z e = let k : occurrences c ss ≡ 0 = subst (λ (a : ℕ). occurrences a ss ≡ 0) (sym e) z in omega arith
@@ -30,56 +30,56 @@ module _ (cs : List (List ℕ)) where
   abbrev Untouched : List ℕ → Gathering → Type 0
   Untouched ss g = (c : ℕ) → Member c ss → get_or g.sizes c 0 ≡ size_of cs c
 
-  untouched-next : (s : ℕ) (ss : List ℕ) (g : Gathering) → NoRepeats (s ∷ ss) → Untouched (s ∷ ss) g → Untouched ss (turned s g)
-  untouched-next s ss g once u c m =
-      get_or-set_other g.sizes s c 0 0 (apart c s ss m (once-head s ss once)) ∙ u c (member-tail c s ss m)
+  untouched_next : (s : ℕ) (ss : List ℕ) (g : Gathering) → NoRepeats (s ∷ ss) → Untouched (s ∷ ss) g → Untouched ss (turned s g)
+  untouched_next s ss g once u c m =
+      get_or-set_other g.sizes s c 0 0 (apart c s ss m (once_head s ss once)) ∙ u c (member_tail c s ss m)
 
-  pub grown-is : (ss : List ℕ) (g : Gathering) → NoRepeats ss → Untouched ss g → (gatherFrom ss g).grown ≡ g.grown + length (gathered cs ss)
-  grown-is [] g once u = omega arith
-  grown-is (s ∷ ss) g once u =
-      let r = grown-is ss (turned s g) (once-tail s ss once) (untouched-next s ss g once u) in
-      let e = u s (member-head s ss) in
+  pub grown_is : (ss : List ℕ) (g : Gathering) → NoRepeats ss → Untouched ss g → (gather_from ss g).grown ≡ g.grown + length (gathered cs ss)
+  grown_is [] g once u = omega arith
+  grown_is (s ∷ ss) g once u =
+      let r = grown_is ss (turned s g) (once_tail s ss once) (untouched_next s ss g once u) in
+      let e = u s (member_head s ss) in
       let l = length-append (members_of cs s) (gathered cs ss) in omega arith
 
-  pub rise-out : (ss : List ℕ) (g : Gathering) (c : ℕ) → occurrences c ss ≡ 0 → get_or (gatherFrom ss g).rise c 0 ≡ get_or g.rise c 0
-  rise-out [] g c z = refl
-  rise-out (s ∷ ss) g c z =
+  pub rise_out : (ss : List ℕ) (g : Gathering) (c : ℕ) → occurrences c ss ≡ 0 → get_or (gather_from ss g).rise c 0 ≡ get_or g.rise c 0
+  rise_out [] g c z = refl
+  rise_out (s ∷ ss) g c z =
       ⊎_elim
-      (λ e. absurd (let o = one-here c s ss e in omega arith))
-      (λ n. rise-out ss (turned s g) c (let o = none_here c s ss n in omega arith) ∙ get_or-set_other g.rise s c g.grown 0 n)
+      (λ e. absurd (let o = one_here c s ss e in omega arith))
+      (λ n. rise_out ss (turned s g) c (let o = none_here c s ss n in omega arith) ∙ get_or-set_other g.rise s c g.grown 0 n)
       (same_or_not c s)
 
-  pub sizes-out : (ss : List ℕ) (g : Gathering) (c : ℕ) → occurrences c ss ≡ 0 → get_or (gatherFrom ss g).sizes c 0 ≡ get_or g.sizes c 0
-  sizes-out [] g c z = refl
-  sizes-out (s ∷ ss) g c z =
+  pub sizes_out : (ss : List ℕ) (g : Gathering) (c : ℕ) → occurrences c ss ≡ 0 → get_or (gather_from ss g).sizes c 0 ≡ get_or g.sizes c 0
+  sizes_out [] g c z = refl
+  sizes_out (s ∷ ss) g c z =
       ⊎_elim
-      (λ e. absurd (let o = one-here c s ss e in omega arith))
-      (λ n. sizes-out ss (turned s g) c (let o = none_here c s ss n in omega arith) ∙ get_or-set_other g.sizes s c 0 0 n)
+      (λ e. absurd (let o = one_here c s ss e in omega arith))
+      (λ n. sizes_out ss (turned s g) c (let o = none_here c s ss n in omega arith) ∙ get_or-set_other g.sizes s c 0 0 n)
       (same_or_not c s)
 
-  pub sizes-in : (ss : List ℕ) (g : Gathering) (c : ℕ) → NoRepeats ss → c < length g.sizes → Member c ss → get_or (gatherFrom ss g).sizes c 0 ≡ 0
-  sizes-in [] g c once k m = absurd (omega arith)
-  sizes-in (s ∷ ss) g c once k m =
+  pub sizes_in : (ss : List ℕ) (g : Gathering) (c : ℕ) → NoRepeats ss → c < length g.sizes → Member c ss → get_or (gather_from ss g).sizes c 0 ≡ 0
+  sizes_in [] g c once k m = absurd (omega arith)
+  sizes_in (s ∷ ss) g c once k m =
       ⊎_elim
-      (λ e. sizes-out ss (turned s g) c (ap (λ (a : ℕ). occurrences a ss) e ∙ once-head s ss once)
+      (λ e. sizes_out ss (turned s g) c (ap (λ (a : ℕ). occurrences a ss) e ∙ once_head s ss once)
       ∙ ap (λ (a : ℕ). get_or (set g.sizes s 0) a 0) e ∙ get_or-set_same g.sizes s 0 0 (subst (λ (a : ℕ). a < length g.sizes) e k))
-      (λ n. sizes-in ss (turned s g) c (once-tail s ss once) (subst (λ (a : ℕ). c < a) (sym (length-set g.sizes s 0)) k) n)
-      (member-cons c s ss m)
+      (λ n. sizes_in ss (turned s g) c (once_tail s ss once) (subst (λ (a : ℕ). c < a) (sym (length-set g.sizes s 0)) k) n)
+      (member_cons c s ss m)
 
   -- each source's members follow those that stand before them
-  pub rise-in : (ss : List ℕ) (g : Gathering) (front : List ℕ) (c j : ℕ) → NoRepeats ss → Untouched ss g → length front ≡ g.grown
+  pub rise_in : (ss : List ℕ) (g : Gathering) (front : List ℕ) (c j : ℕ) → NoRepeats ss → Untouched ss g → length front ≡ g.grown
       → Member c ss → c < length g.rise → j < size_of cs c
-      → (get_or (front ++ gathered cs ss) (j + get_or (gatherFrom ss g).rise c 0) 0 ≡ get_or (members_of cs c) j 0)
-      × (g.grown ≤ get_or (gatherFrom ss g).rise c 0) × (j + get_or (gatherFrom ss g).rise c 0 < length (front ++ gathered cs ss))
-  rise-in [] g front c j once u f m k h = absurd (omega arith)
-  rise-in (s ∷ ss) g front c j once u f m k h =
+      → (get_or (front ++ gathered cs ss) (j + get_or (gather_from ss g).rise c 0) 0 ≡ get_or (members_of cs c) j 0)
+      × (g.grown ≤ get_or (gather_from ss g).rise c 0) × (j + get_or (gather_from ss g).rise c 0 < length (front ++ gathered cs ss))
+  rise_in [] g front c j once u f m k h = absurd (omega arith)
+  rise_in (s ∷ ss) g front c j once u f m k h =
       ⊎_elim
-      (λ e. let rise : get_or (gatherFrom ss (turned s g)).rise c 0 ≡ length front =
-      rise-out ss (turned s g) c (ap (λ (a : ℕ). occurrences a ss) e ∙ once-head s ss once)
+      (λ e. let rise : get_or (gather_from ss (turned s g)).rise c 0 ≡ length front =
+      rise_out ss (turned s g) c (ap (λ (a : ℕ). occurrences a ss) e ∙ once_head s ss once)
       ∙ ap (λ (a : ℕ). get_or (set g.rise s g.grown) a 0) e
       ∙ get_or-set_same g.rise s g.grown 0 (subst (λ (a : ℕ). a < length g.rise) e k) ∙ sym f in
       let size = ap (size_of cs) e in
-      let at : j + get_or (gatherFrom ss (turned s g)).rise c 0 ≡ length front + j = omega arith in
+      let at : j + get_or (gather_from ss (turned s g)).rise c 0 ≡ length front + j = omega arith in
       let l = length-append front (members_of cs s ++ gathered cs ss) in
       let i = length-append (members_of cs s) (gathered cs ss) in (
         ap (λ (a : ℕ). get_or (front ++ (members_of cs s ++ gathered cs ss)) a 0) at
@@ -90,13 +90,13 @@ module _ (cs : List (List ℕ)) where
         omega arith,
       ))
       (λ n. let longer = length-append front (members_of cs s) in
-      let size = u s (member-head s ss) in
-      let rest = rise-in ss (turned s g) (front ++ members_of cs s) c j (once-tail s ss once) (untouched-next s ss g once u) (omega arith) n
+      let size = u s (member_head s ss) in
+      let rest = rise_in ss (turned s g) (front ++ members_of cs s) c j (once_tail s ss once) (untouched_next s ss g once u) (omega arith) n
       (subst (λ (a : ℕ). c < a) (sym (length-set g.rise s g.grown)) k) h in
       let same = append_assoc front (members_of cs s) (gathered cs ss) in
       let lengths = ap length same in (
-        ap (λ (l : List ℕ). get_or l (j + get_or (gatherFrom ss (turned s g)).rise c 0) 0) (sym same) ∙ rest.0,
+        ap (λ (l : List ℕ). get_or l (j + get_or (gather_from ss (turned s g)).rise c 0) 0) (sym same) ∙ rest.0,
         omega (arith, rest.1),
         omega (arith, rest.2),
       ))
-      (member-cons c s ss m)
+      (member_cons c s ss m)

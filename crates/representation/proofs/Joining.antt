@@ -13,25 +13,25 @@ use Rattle.definition.specs.Lists.{concat}
 use Rattle.definition.specs.Components.{members_of, size_of, gathered, emptied, joined}
 use Rattle.definition.specs.Connectivity.{occurrences, Member, NoRepeats}
 use Rattle.definition.proofs.Steps.{cond_yes, cond_no}
-use Rattle.definition.proofs.Counting.{same_or_not, one-here, none_here, member-or-not, member-head, member-tail}
-use Rattle.definition.proofs.Joins.{length-emptied, emptied-in, emptied-out, length-joined}
+use Rattle.definition.proofs.Counting.{same_or_not, one_here, none_here, member_or_not, member_head, member_tail}
+use Rattle.definition.proofs.Joins.{length_emptied, emptied_in, emptied_out, length_joined}
 use Rattle.state.specs.declared.State.{State}
-use Rattle.state.specs.Steps.{Gathering, gatherFrom, gathering, riseAt, Joinable, BeforeJoin, Joined}
-use Rattle.state.proofs.Gathers.{lengths-kept}
+use Rattle.state.specs.Steps.{Gathering, gather_from, gathering, rise_at, Joinable, BeforeJoin, Joined}
+use Rattle.state.proofs.Gathers.{lengths_kept}
 use Rattle.representation.specs.Represents.{Represents}
-use Rattle.representation.proofs.Gathering.{grown-is, rise-out, sizes-out, sizes-in, rise-in}
+use Rattle.representation.proofs.Gathering.{grown_is, rise_out, sizes_out, sizes_in, rise_in}
 
 -- no component has more members than there are in all
-pub size-most : (cs : List (List ℕ)) (c : ℕ) → size_of cs c ≤ length (concat cs)
-size-most [] c = omega arith
-size-most (m ∷ cs) zero = let l = length-append m (concat cs) in omega arith
-size-most (m ∷ cs) (suc c) = let l = length-append m (concat cs) in let r = size-most cs c in omega arith
+pub size_most : (cs : List (List ℕ)) (c : ℕ) → size_of cs c ≤ length (concat cs)
+size_most [] c = omega arith
+size_most (m ∷ cs) zero = let l = length-append m (concat cs) in omega arith
+size_most (m ∷ cs) (suc c) = let l = length-append m (concat cs) in let r = size_most cs c in omega arith
 
 -- a number outside a list's range is the default
-listed-or-zero : (xs : List ℕ) (i : ℕ) → Member (get_or xs i 0) xs ⊎ (get_or xs i 0 ≡ 0)
-listed-or-zero [] i = inr refl
-listed-or-zero (x ∷ xs) zero = inl (member-head x xs)
-listed-or-zero (x ∷ xs) (suc i) = ⊎_elim (λ m. inl (member-tail (get_or xs i 0) x xs m)) inr (listed-or-zero xs i)
+listed_or_zero : (xs : List ℕ) (i : ℕ) → Member (get_or xs i 0) xs ⊎ (get_or xs i 0 ≡ 0)
+listed_or_zero [] i = inr refl
+listed_or_zero (x ∷ xs) zero = inl (member_head x xs)
+listed_or_zero (x ∷ xs) (suc i) = ⊎_elim (λ m. inl (member_tail (get_or xs i 0) x xs m)) inr (listed_or_zero xs i)
 
 module _ (s : State) (order : List ℕ) (cs : List (List ℕ)) (rep : Represents s order cs) (t : ℕ) (others : List ℕ)
     (once : NoRepeats (t ∷ others)) (inside : (c : ℕ) → Member c (t ∷ others) → (c < length cs) × (0 < size_of cs c)) (made : length cs ≤ 512) where
@@ -42,31 +42,31 @@ module _ (s : State) (order : List ℕ) (cs : List (List ℕ)) (rep : Represents
   begun = record { rise = replicate 512 0; sizes = s.size; grown = get_or s.size t 0 }
 
   absent : occurrences t others ≡ 0
-  absent = let o = once t in let g = one-here t t others refl in omega arith
+  absent = let o = once t in let g = one_here t t others refl in omega arith
 
   later : NoRepeats others
   later c = let o = once c in omega arith
 
   first : (t < length cs) × (0 < size_of cs t)
-  first = inside t (member-head t others)
+  first = inside t (member_head t others)
 
-  target-size : get_or s.size t 0 ≡ size_of cs t
-  target-size = rep.size t first.0
+  target_size : get_or s.size t 0 ≡ size_of cs t
+  target_size = rep.size t first.0
 
   untouched : (c : ℕ) → Member c others → get_or s.size c 0 ≡ size_of cs c
-  untouched c m = rep.size c (inside c (member-tail c t others m)).0
+  untouched c m = rep.size c (inside c (member_tail c t others m)).0
 
-  pub grown-all : (gathering s.size sources).grown ≡ length (gathered cs sources)
+  pub grown_all : (gathering s.size sources).grown ≡ length (gathered cs sources)
   unfolding gathering
-  grown-all =
-      let e = grown-is cs others begun later untouched in
-      let f = target-size in
+  grown_all =
+      let e = grown_is cs others begun later untouched in
+      let f = target_size in
       let l = length-append (members_of cs t) (gathered cs others) in omega arith
 
-  rise-none : (c : ℕ) → occurrences c others ≡ 0 → get_or (gathering s.size sources).rise c 0 ≡ 0
+  rise_none : (c : ℕ) → occurrences c others ≡ 0 → get_or (gathering s.size sources).rise c 0 ≡ 0
   unfolding gathering
-  rise-none c z =
-      rise-out cs others begun c z
+  rise_none c z =
+      rise_out cs others begun c z
       ∙ ⊎_elim (λ m. m) (λ m. m) (zeros 512 c)
     where
       zeros : (n i : ℕ) → (get_or (replicate {A = ℕ} n 0) i 0 ≡ 0) ⊎ (get_or (replicate {A = ℕ} n 0) i 0 ≡ 0)
@@ -74,42 +74,42 @@ module _ (s : State) (order : List ℕ) (cs : List (List ℕ)) (rep : Represents
       zeros (suc n) zero = inl refl
       zeros (suc n) (suc i) = zeros n i
 
-  rise-some : (c j : ℕ) → Member c others → j < size_of cs c
+  rise_some : (c j : ℕ) → Member c others → j < size_of cs c
       → (get_or (gathered cs sources) (j + get_or (gathering s.size sources).rise c 0) 0 ≡ get_or (members_of cs c) j 0)
       × (0 < get_or (gathering s.size sources).rise c 0) × (j + get_or (gathering s.size sources).rise c 0 < length (gathered cs sources))
   unfolding gathering
-  rise-some c j m h =
-      let small = (inside c (member-tail c t others m)).0 in
+  rise_some c j m h =
+      let small = (inside c (member_tail c t others m)).0 in
       let l = length-replicate {A = ℕ} 512 0 in
-      let f = target-size in
-      let r = rise-in cs others begun (members_of cs t) c j later untouched (sym f) m (omega arith) h in
+      let f = target_size in
+      let r = rise_in cs others begun (members_of cs t) c j later untouched (sym f) m (omega arith) h in
       (r.0, let p = first.1 in omega (arith, r.1), r.2)
 
   -- ---- the joined components
 
   at_target : members_of (joined cs sources) t ≡ gathered cs sources
   unfolding joined
-  at_target = get_or-set_same (emptied others cs) t (gathered cs sources) [] (let l = length-emptied others cs in let f = first.0 in omega arith)
+  at_target = get_or-set_same (emptied others cs) t (gathered cs sources) [] (let l = length_emptied others cs in let f = first.0 in omega arith)
 
   at_source : (c : ℕ) → Member c others → members_of (joined cs sources) c ≡ []
   unfolding joined
   at_source c m =
       get_or-set_other (emptied others cs) t c (gathered cs sources) [] (λ e. let k : Member t others = subst (λ (a : ℕ). Member a others) e m in let z = absent in omega arith)
-      ∙ emptied-in others cs c m
+      ∙ emptied_in others cs c m
 
   at_other : (c : ℕ) → occurrences c sources ≡ 0 → members_of (joined cs sources) c ≡ members_of cs c
   unfolding joined
   at_other c z =
-      get_or-set_other (emptied others cs) t c (gathered cs sources) [] (λ e. let o = one-here c t others e in omega arith)
-      ∙ emptied-out others cs c (omega arith)
+      get_or-set_other (emptied others cs) t c (gathered cs sources) [] (λ e. let o = one_here c t others e in omega arith)
+      ∙ emptied_out others cs c (omega arith)
 
   -- ---- what the code asks
 
   pub joinable : length (gathered cs sources) ≤ 255 → Joinable s.size sources
   joinable few = record {
     some = omega arith;
-    numbers = λ i. ⊎_elim (λ m. let k = inside (get_or sources i 0) m in omega (arith, k.0)) (λ e. omega arith) (listed-or-zero sources i);
-    few = let e = grown-all in omega arith;
+    numbers = λ i. ⊎_elim (λ m. let k = inside (get_or sources i 0) m in omega (arith, k.0)) (λ e. omega arith) (listed_or_zero sources i);
+    few = let e = grown_all in omega arith;
   }
 
   -- where each position stands: its component is another source, the target or no source
@@ -117,25 +117,25 @@ module _ (s : State) (order : List ℕ) (cs : List (List ℕ)) (rep : Represents
   sort c =
       ⊎_elim inl
       (λ z. inr (⊎_elim inl (λ n. inr (none_here c t others n ∙ z)) (same_or_not c t)))
-      (member-or-not c others)
+      (member_or_not c others)
 
-  place-fits : length (gathered cs sources) ≤ 255 → length (concat cs) ≤ 255 → (p : ℕ) → p < length order → get_or s.place p 0 + riseAt s sources p ≤ 255
-  place-fits few all p h =
+  place_fits : length (gathered cs sources) ≤ 255 → length (concat cs) ≤ 255 → (p : ℕ) → p < length order → get_or s.place p 0 + rise_at s sources p ≤ 255
+  place_fits few all p h =
       let c = get_or s.component p 0 in
       let j = rep.place p h in
-      let most = size-most cs c in
+      let most = size_most cs c in
       ⊎_elim
-      (λ m. let r = rise-some c (get_or s.place p 0) m j in omega (arith, r.2))
+      (λ m. let r = rise_some c (get_or s.place p 0) m j in omega (arith, r.2))
       (λ n. let z : get_or (gathering s.size sources).rise c 0 ≡ 0 =
-      rise-none c (⊎_elim (λ e. subst (λ (a : ℕ). occurrences a others ≡ 0) (sym e) absent) (λ k. omega arith) n) in omega arith)
+      rise_none c (⊎_elim (λ e. subst (λ (a : ℕ). occurrences a others ≡ 0) (sym e) absent) (λ k. omega arith) n) in omega arith)
       (sort c)
 
-  pub before-join : length (gathered cs sources) ≤ 255 → length (concat cs) ≤ 255 → length order ≤ 512 → BeforeJoin s sources
-  before-join few all narrow = record {
+  pub before_join : length (gathered cs sources) ≤ 255 → length (concat cs) ≤ 255 → length order ≤ 512 → BeforeJoin s sources
+  before_join few all narrow = record {
     shape = rep.shape;
     narrow = let e = rep.width in omega arith;
     joinable = joinable few;
-    places = λ p h. place-fits few all p (let e = rep.width in omega arith);
+    places = λ p h. place_fits few all p (let e = rep.width in omega arith);
   }
 
   -- ---- the joined state
@@ -151,22 +151,22 @@ module _ (s : State) (order : List ℕ) (cs : List (List ℕ)) (rep : Represents
         let j = get_or s.place p 0 in
         let component = done.component p w in
         let place = done.place p w in
-        let size = length-joined cs sources in
+        let size = length_joined cs sources in
         let below = rep.component p h in
         let small = rep.place p h in
         let member = rep.member p h in
         ⊎_elim
-        (λ m. let up = rise-some c j m small in
-        let new : get_or r.component p 0 ≡ t = component ∙ cond_no (eqb (riseAt s sources p) 0) c t (ne_eqb (riseAt s sources p) 0 (λ e. let u = up.1 in omega arith)) in
+        (λ m. let up = rise_some c j m small in
+        let new : get_or r.component p 0 ≡ t = component ∙ cond_no (eqb (rise_at s sources p) 0) c t (ne_eqb (rise_at s sources p) 0 (λ e. let u = up.1 in omega arith)) in
         let at : members_of (joined cs sources) (get_or r.component p 0) ≡ gathered cs sources = ap (members_of (joined cs sources)) new ∙ at_target in
         let long = ap length at in (
           let f = first.0 in omega arith,
           let u = up.2 in omega arith,
           ap₂ (λ (l : List ℕ) (i : ℕ). get_or l i 0) at place ∙ up.0 ∙ member,
         ))
-        (λ n. let z : riseAt s sources p ≡ 0 =
-        rise-none c (⊎_elim (λ e. subst (λ (a : ℕ). occurrences a others ≡ 0) (sym e) absent) (λ k. omega arith) n) in
-        let new : get_or r.component p 0 ≡ c = component ∙ cond_yes (eqb (riseAt s sources p) 0) c t (eq-eqb (riseAt s sources p) 0 z) in
+        (λ n. let z : rise_at s sources p ≡ 0 =
+        rise_none c (⊎_elim (λ e. subst (λ (a : ℕ). occurrences a others ≡ 0) (sym e) absent) (λ k. omega arith) n) in
+        let new : get_or r.component p 0 ≡ c = component ∙ cond_yes (eqb (rise_at s sources p) 0) c t (eq-eqb (rise_at s sources p) 0 z) in
         let stays : get_or r.place p 0 ≡ j = omega arith in
         let kept : (j < size_of (joined cs sources) c) × (get_or (members_of (joined cs sources) c) j 0 ≡ get_or (members_of cs c) j 0) =
         ⊎_elim
@@ -189,26 +189,26 @@ module _ (s : State) (order : List ℕ) (cs : List (List ℕ)) (rep : Represents
     sized : (c : ℕ) → c < length (joined cs sources) → get_or r.size c 0 ≡ size_of (joined cs sources) c
     unfolding gathering
     sized c h =
-        let g = gatherFrom others begun in
-        let lengths = lengths-kept others begun in
+        let g = gather_from others begun in
+        let lengths = lengths_kept others begun in
         let all = rep.shape.sizes in
-        let inn : c < length cs = let l = length-joined cs sources in omega arith in
+        let inn : c < length cs = let l = length_joined cs sources in omega arith in
         ap (λ (l : List ℕ). get_or l c 0) done.size
         ∙ ⊎_elim
         (λ e. ap (λ (a : ℕ). get_or (set g.sizes t g.grown) a 0) e
         ∙ get_or-set_same g.sizes t g.grown 0 (let k = lengths.1 in let f = first.0 in omega arith)
-        ∙ grown-all ∙ sym (ap length at_target) ∙ sym (ap (size_of (joined cs sources)) e))
+        ∙ grown_all ∙ sym (ap length at_target) ∙ sym (ap (size_of (joined cs sources)) e))
         (λ n. get_or-set_other g.sizes t c g.grown 0 n
         ∙ ⊎_elim
-        (λ m. sizes-in cs others begun c later (omega arith) m ∙ sym (ap length (at_source c m)))
-        (λ z. sizes-out cs others begun c z ∙ rep.size c inn ∙ sym (ap length (at_other c (none_here c t others n ∙ z))))
-        (member-or-not c others))
+        (λ m. sizes_in cs others begun c later (omega arith) m ∙ sym (ap length (at_source c m)))
+        (λ z. sizes_out cs others begun c z ∙ rep.size c inn ∙ sym (ap length (at_other c (none_here c t others n ∙ z))))
+        (member_or_not c others))
         (same_or_not c t)
 
-    pub represents-join : Represents r order (joined cs sources)
-    represents-join = record {
+    pub represents_join : Represents r order (joined cs sources)
+    represents_join = record {
       width = done.width ∙ rep.width;
-      count = done.count ∙ rep.count ∙ sym (length-joined cs sources);
+      count = done.count ∙ rep.count ∙ sym (length_joined cs sources);
       component = λ p h. (moved p h).0;
       place = λ p h. (moved p h).1;
       member = λ p h. (moved p h).2;

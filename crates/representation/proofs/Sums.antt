@@ -5,55 +5,55 @@ use mathlib.Core.List.{List, [], ◌∷◌, ◌++◌}
 use Prim.Native.Nat.{ℕ, ◌+◌, ◌-◌, ◌^◌, ◌<◌, ◌≤◌}
 use native.Mathlib.Omega.{arith}
 use lib.ListN.{length, get_or, set}
-use Rattle.definition.specs.Components.{members_of, size_of, gathered, joined, amplitudes, liveDimension}
+use Rattle.definition.specs.Components.{members_of, size_of, gathered, joined, amplitudes, live_dimension}
 use Rattle.definition.specs.Connectivity.{Member, NoRepeats}
-use Rattle.definition.proofs.Counting.{member-head, member-tail}
+use Rattle.definition.proofs.Counting.{member_head, member_tail}
 use Rattle.tally.specs.Tally.{powers}
-use Rattle.definition.proofs.Room.{total-set, total-append, shares, emptied-total, joined-total}
+use Rattle.definition.proofs.Room.{total-set, total-append, shares, emptied_total, joined_total}
 
 -- a component with members has 2 to the power of its size amplitudes
-pub amplitudes-some : (m : List ℕ) → 0 < length m → amplitudes m ≡ 2 ^ length m
-amplitudes-some [] h = absurd (omega arith)
-amplitudes-some (a ∷ m) h = refl
+pub amplitudes_some : (m : List ℕ) → 0 < length m → amplitudes m ≡ 2 ^ length m
+amplitudes_some [] h = absurd (omega arith)
+amplitudes_some (a ∷ m) h = refl
 
 -- the listed components' dimensions by the sizes are their amplitudes
-pub powers-shares : (size : List ℕ) (cs : List (List ℕ)) (ss : List ℕ) → ((c : ℕ) → Member c ss → (get_or size c 0 ≡ size_of cs c) × (0 < size_of cs c))
+pub powers_shares : (size : List ℕ) (cs : List (List ℕ)) (ss : List ℕ) → ((c : ℕ) → Member c ss → (get_or size c 0 ≡ size_of cs c) × (0 < size_of cs c))
     → powers size ss ≡ shares amplitudes cs ss
-powers-shares size cs [] f = refl
-powers-shares size cs (s ∷ ss) f =
-    let r = powers-shares size cs ss (λ c m. f c (member-tail c s ss m)) in
-    let e = f s (member-head s ss) in
-    let a = amplitudes-some (members_of cs s) e.1 in
+powers_shares size cs [] f = refl
+powers_shares size cs (s ∷ ss) f =
+    let r = powers_shares size cs ss (λ c m. f c (member_tail c s ss m)) in
+    let e = f s (member_head s ss) in
+    let a = amplitudes_some (members_of cs s) e.1 in
     let p = ap (λ (n : ℕ). 2 ^ n) e.0 in omega arith
 
 -- a join
-pub live-join : (size : List ℕ) (cs : List (List ℕ)) (ss : List ℕ) → NoRepeats ss → ((c : ℕ) → Member c ss → c < length cs)
+pub live_join : (size : List ℕ) (cs : List (List ℕ)) (ss : List ℕ) → NoRepeats ss → ((c : ℕ) → Member c ss → c < length cs)
     → ((c : ℕ) → Member c ss → (get_or size c 0 ≡ size_of cs c) × (0 < size_of cs c)) → 0 < length (gathered cs ss)
-    → (powers size ss ≤ liveDimension cs + 2 ^ length (gathered cs ss))
-    × (liveDimension (joined cs ss) + powers size ss ≡ liveDimension cs + 2 ^ length (gathered cs ss))
-unfolding liveDimension
-live-join size cs ss once small f some =
-    let e = joined-total amplitudes refl cs ss once small in
-    let p = powers-shares size cs ss f in
-    let a = amplitudes-some (gathered cs ss) some in (omega arith, omega arith)
+    → (powers size ss ≤ live_dimension cs + 2 ^ length (gathered cs ss))
+    × (live_dimension (joined cs ss) + powers size ss ≡ live_dimension cs + 2 ^ length (gathered cs ss))
+unfolding live_dimension
+live_join size cs ss once small f some =
+    let e = joined_total amplitudes refl cs ss once small in
+    let p = powers_shares size cs ss f in
+    let a = amplitudes_some (gathered cs ss) some in (omega arith, omega arith)
 
 -- a removal
-pub live-removal : (cs : List (List ℕ)) (t : ℕ) (left : List ℕ) → t < length cs → 0 < size_of cs t
-    → liveDimension (set cs t left) + 2 ^ size_of cs t ≡ liveDimension cs + amplitudes left
-unfolding liveDimension
-live-removal cs t left h some =
+pub live_removal : (cs : List (List ℕ)) (t : ℕ) (left : List ℕ) → t < length cs → 0 < size_of cs t
+    → live_dimension (set cs t left) + 2 ^ size_of cs t ≡ live_dimension cs + amplitudes left
+unfolding live_dimension
+live_removal cs t left h some =
     let e = total-set amplitudes cs t left h in
-    let a = amplitudes-some (members_of cs t) some in omega arith
+    let a = amplitudes_some (members_of cs t) some in omega arith
 
 -- a promotion
-pub live-promotion : (cs : List (List ℕ)) (n : ℕ) → liveDimension (cs ++ ((n ∷ []) ∷ [])) ≡ liveDimension cs + 2
-unfolding liveDimension
-live-promotion cs n = let e = total-append amplitudes cs ((n ∷ []) ∷ []) in omega arith
+pub live_promotion : (cs : List (List ℕ)) (n : ℕ) → live_dimension (cs ++ ((n ∷ []) ∷ [])) ≡ live_dimension cs + 2
+unfolding live_dimension
+live_promotion cs n = let e = total-append amplitudes cs ((n ∷ []) ∷ []) in omega arith
 
 -- the sources' own powers are part of the live dimension
-pub powers-live : (size : List ℕ) (cs : List (List ℕ)) (ss : List ℕ) → NoRepeats ss → ((c : ℕ) → Member c ss → c < length cs)
-    → ((c : ℕ) → Member c ss → (get_or size c 0 ≡ size_of cs c) × (0 < size_of cs c)) → powers size ss ≤ liveDimension cs
-unfolding liveDimension
-powers-live size cs ss once small f =
-    let e = emptied-total amplitudes refl ss cs once small in
-    let p = powers-shares size cs ss f in omega arith
+pub powers_live : (size : List ℕ) (cs : List (List ℕ)) (ss : List ℕ) → NoRepeats ss → ((c : ℕ) → Member c ss → c < length cs)
+    → ((c : ℕ) → Member c ss → (get_or size c 0 ≡ size_of cs c) × (0 < size_of cs c)) → powers size ss ≤ live_dimension cs
+unfolding live_dimension
+powers_live size cs ss once small f =
+    let e = emptied_total amplitudes refl ss cs once small in
+    let p = powers_shares size cs ss f in omega arith

@@ -1,7 +1,7 @@
 // Rows as words. A row is written into the part of its buffer that begins at its offset: the functions here are lent that
 // part, and write its first words.
 ghost use Rattle.std.specs.Prelude.{◌≡◌, [], ◌∷◌, ◌++◌, ◌+◌, ◌*◌, ◌≤◌, length, drop};
-ghost use Rattle.definition.specs.Walk.{flagWord, bitsWord, rowHead, rotationRow, measurementRow};
+ghost use Rattle.definition.specs.Walk.{flag_word, bits_word, row_head, rotation_row, measurement_row};
 ghost use Rattle.outputs.specs.Buffers.{patch};
 
 use kernels::active::{
@@ -19,7 +19,7 @@ pub struct RowHead {
 
 // The bits of a float. A NaN has one pattern.
 pub fn float_bits(x: f64) -> u64
-    ensures { result ≡ bitsWord x }
+    ensures { result ≡ bits_word x }
 {
     if x != x {
         0x7ff8_0000_0000_0000
@@ -30,7 +30,7 @@ pub fn float_bits(x: f64) -> u64
 
 // 1 for a flag that is set.
 pub fn flag_word(flag: bool) -> u64
-    ensures { result ≡ flagWord flag }
+    ensures { result ≡ flag_word flag }
 {
     if flag { 1 } else { 0 }
 }
@@ -38,7 +38,7 @@ pub fn flag_word(flag: bool) -> u64
 // Writes the eleven words that a row begins with.
 fn write_head(row: &mut [u64], head: RowHead, action: ActivePauliAction)
     requires { 11 ≤ length row.old }
-    ensures { row.new ≡ rowHead head.component head.merge_offset head.merge_count action ++ drop 11 row.old }
+    ensures { row.new ≡ row_head head.component head.merge_offset head.merge_count action ++ drop 11 row.old }
 {
     row[0] = head.component;
     row[1] = head.merge_offset;
@@ -56,7 +56,7 @@ fn write_head(row: &mut [u64], head: RowHead, action: ActivePauliAction)
 // Writes a rotation's row, 21 words.
 fn write_rotation(row: &mut [u64], head: RowHead, kernel: PrecomputedActivePauliRotationKernel)
     requires { 21 ≤ length row.old }
-    ensures { row.new ≡ rotationRow head.component head.merge_offset head.merge_count kernel ++ drop 21 row.old }
+    ensures { row.new ≡ rotation_row head.component head.merge_offset head.merge_count kernel ++ drop 21 row.old }
 {
     let action = kernel.action;
     write_head(row, head, action);
@@ -80,7 +80,7 @@ fn write_measurement(
     deactivated: bool,
 )
     requires { 19 ≤ length row.old }
-    ensures { row.new ≡ measurementRow head.component head.merge_offset head.merge_count kernel deactivated ++ drop 19 row.old }
+    ensures { row.new ≡ measurement_row head.component head.merge_offset head.merge_count kernel deactivated ++ drop 19 row.old }
 {
     let action = kernel.action;
     write_head(row, head, action);
@@ -111,7 +111,7 @@ pub fn put_rotation(
     kernel: PrecomputedActivePauliRotationKernel,
 )
     requires { 21 * number + 21 ≤ length rows.old }
-    ensures { rows.new ≡ patch (21 * number) (rotationRow head.component head.merge_offset head.merge_count kernel) rows.old }
+    ensures { rows.new ≡ patch (21 * number) (rotation_row head.component head.merge_offset head.merge_count kernel) rows.old }
 {
     let at = 21 * number;
     write_rotation(&mut rows[at..], head, kernel);
@@ -126,7 +126,7 @@ pub fn put_measurement(
     deactivated: bool,
 )
     requires { 19 * number + 19 ≤ length rows.old }
-    ensures { rows.new ≡ patch (19 * number) (measurementRow head.component head.merge_offset head.merge_count kernel deactivated) rows.old }
+    ensures { rows.new ≡ patch (19 * number) (measurement_row head.component head.merge_offset head.merge_count kernel deactivated) rows.old }
 {
     let at = 19 * number;
     write_measurement(&mut rows[at..], head, kernel, deactivated);

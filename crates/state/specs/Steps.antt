@@ -46,23 +46,23 @@ pub record Gathering : Type 0 where
   pub grown : ℕ
 
 -- the members of each source but the target go behind those that are there
-abbrev pub gatherFrom : List ℕ → Gathering → Gathering
-gatherFrom [] g = g
-gatherFrom (s ∷ ss) g =
-    gatherFrom ss (record { rise = set g.rise s g.grown; sizes = set g.sizes s 0; grown = g.grown + get_or g.sizes s 0 })
+abbrev pub gather_from : List ℕ → Gathering → Gathering
+gather_from [] g = g
+gather_from (s ∷ ss) g =
+    gather_from ss (record { rise = set g.rise s g.grown; sizes = set g.sizes s 0; grown = g.grown + get_or g.sizes s 0 })
 
 abbrev pub target_of : List ℕ → ℕ
 target_of sources = get_or sources 0 0
 
 unfoldable pub gathering : List ℕ → List ℕ → Gathering
-gathering size sources = gatherFrom (drop 1 sources) (record { rise = replicate 512 0; sizes = size; grown = get_or size (target_of sources) 0 })
+gathering size sources = gather_from (drop 1 sources) (record { rise = replicate 512 0; sizes = size; grown = get_or size (target_of sources) 0 })
 
-abbrev pub sizesAfter : List ℕ → List ℕ → List ℕ
-sizesAfter size sources = set (gathering size sources).sizes (target_of sources) (gathering size sources).grown
+abbrev pub sizes_after : List ℕ → List ℕ → List ℕ
+sizes_after size sources = set (gathering size sources).sizes (target_of sources) (gathering size sources).grown
 
 -- the rise of the position's members
-abbrev pub riseAt : State → List ℕ → ℕ → ℕ
-riseAt s sources p = get_or (gathering s.size sources).rise (get_or s.component p 0) 0
+abbrev pub rise_at : State → List ℕ → ℕ → ℕ
+rise_at s sources p = get_or (gathering s.size sources).rise (get_or s.component p 0) 0
 
 -- what the sources of a join have to be: some, each a component's number, and members in all so few that a place holds their number
 pub record Joinable (size sources : List ℕ) : Type 0 where
@@ -71,9 +71,9 @@ pub record Joinable (size sources : List ℕ) : Type 0 where
   pub few : (gathering size sources).grown ≤ 255
 
 pub record Joined (s : State) (sources : List ℕ) (r : State) : Type 0 where
-  pub component : (p : ℕ) → p < s.width → get_or r.component p 0 ≡ cond (eqb (riseAt s sources p) 0) (get_or s.component p 0) (target_of sources)
-  pub place : (p : ℕ) → p < s.width → get_or r.place p 0 ≡ get_or s.place p 0 + riseAt s sources p
-  pub size : r.size ≡ sizesAfter s.size sources
+  pub component : (p : ℕ) → p < s.width → get_or r.component p 0 ≡ cond (eqb (rise_at s sources p) 0) (get_or s.component p 0) (target_of sources)
+  pub place : (p : ℕ) → p < s.width → get_or r.place p 0 ≡ get_or s.place p 0 + rise_at s sources p
+  pub size : r.size ≡ sizes_after s.size sources
   pub width : r.width ≡ s.width
   pub count : r.count ≡ s.count
   pub shape : Shape r
@@ -83,7 +83,7 @@ pub record BeforeJoin (s : State) (sources : List ℕ) : Type 0 where
   pub shape : Shape s
   pub narrow : s.width ≤ 512
   pub joinable : Joinable s.size sources
-  pub places : (p : ℕ) → p < s.width → get_or s.place p 0 + riseAt s sources p ≤ 255
+  pub places : (p : ℕ) → p < s.width → get_or s.place p 0 + rise_at s sources p ≤ 255
 
 -- ---- "a new coordinate and component, both next numbers"
 

@@ -2,7 +2,7 @@
 // position that has that component and that place. Which coordinate that is stands beside the state, in the active order:
 // only the groups ask for it, and what the steps take and return by value is smaller without it.
 ghost use Rattle.std.specs.Prelude.{◌≡◌, ◌≤◌, ◌<◌, length, set};
-ghost use Rattle.state.specs.Steps.{InOrder, Closed, Started, Joinable, gathering, sizesAfter, BeforeJoin, Joined, promoted, BeforeRemoval, Removed};
+ghost use Rattle.state.specs.Steps.{InOrder, Closed, Started, Joinable, gathering, sizes_after, BeforeJoin, Joined, promoted, BeforeRemoval, Removed};
 ghost use Rattle.state.specs.Steps as Steps;
 
 #[derive(Drop)]
@@ -56,7 +56,7 @@ pub fn close_gap(order: &mut [u16; 512], pivot: usize, last: usize)
 pub fn gather_sizes(size: &mut [u8; 512], sources: &[u64]) -> [u8; 512]
     requires { Joinable size.old sources.now }
     ensures { (result ≡ (gathering size.old sources.now).rise)
-        × (size.new ≡ sizesAfter size.old sources.now) }
+        × (size.new ≡ sizes_after size.old sources.now) }
 {
     let mut rise = [0u8; 512];
     let target = sources[0] as usize;

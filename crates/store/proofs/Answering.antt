@@ -8,42 +8,42 @@ use native.Mathlib.Omega.{arith}
 use lib.ListN.{length, take}
 use borrow.Author.Tests.{lt-ltb, le-ltb}
 use Rattle.records.specs.declared.Head.{Head}
-use Rattle.definition.specs.Plan.{Plan, Result, planned, refusedAt, refuseAll, plan_of, padded, heldAfter}
-use Rattle.definition.proofs.Room.{plan-fits-in}
+use Rattle.definition.specs.Plan.{Plan, Result, planned, refused_at, refuse_all, plan_of, padded, held_after}
+use Rattle.definition.proofs.Room.{plan_fits_in}
 use Rattle.outputs.specs.declared.WordCounts.{WordCounts}
-use Rattle.walk.specs.Walking.{Buffers, lengthsOf, SameLengths}
+use Rattle.walk.specs.Walking.{Buffers, lengths_of, SameLengths}
 use Rattle.lent.specs.Lent.{Held}
 use Rattle.answer.specs.declared.ActiveComponentPlan.{ActiveComponentPlan}
 use Rattle.answer.specs.declared.Planned.TheVariants as P
-use Rattle.answer.specs.Outcome.{usedIn}
+use Rattle.answer.specs.Outcome.{used_in}
 use Rattle.component_plan.specs.Answer.{Answers}
-use Rattle.component_plan.proofs.Filled.{front-of-padded}
-use Rattle.component_plan.proofs.Refusals.{away, zeros-held}
-use Rattle.stored_plan.specs.Stored.{Kept, scalarsOf, keptOf, bytes_of, fileOf}
-use Rattle.plan_file.specs.Writing.{scalarsIn, wordsFor}
+use Rattle.component_plan.proofs.Filled.{front_of_padded}
+use Rattle.component_plan.proofs.Refusals.{away, zeros_held}
+use Rattle.stored_plan.specs.Stored.{Kept, scalars_of, kept_of, bytes_of, file_of}
+use Rattle.plan_file.specs.Writing.{scalars_in, words_for}
 use Rattle.plan_file.proofs.Writing.{bytes_count}
 use Rattle.plan_file.proofs.Fields.{found}
 use Rattle.store.specs.declared.Stored.TheVariants as S
 use Rattle.store.specs.Storing as Storing
-use Rattle.store.specs.Storing.{fitting, store_of, outcomeIn, Stores}
+use Rattle.store.specs.Storing.{fitting, store_of, outcome_in, Stores}
 
 -- ---- a plan that was answered
 
 -- the used words in front of each buffer, and the scalar words
-abbrev pub frontOf : ActiveComponentPlan → Buffers → Kept
-frontOf r b = record {
+abbrev pub front_of : ActiveComponentPlan → Buffers → Kept
+front_of r b = record {
   steps = take r.used.steps b.steps;
   merges = take r.used.merges b.merges;
   sizes = take r.used.sizes b.sizes;
   rotations = take r.used.rotations b.rotations;
   promotions = take r.used.promotions b.promotions;
   measurements = take r.used.measurements b.measurements;
-  scalars = scalarsIn r;
+  scalars = scalars_in r;
 }
 
 module _ (h : Head) (ws : List ℕ) (before between : Buffers) (r : ActiveComponentPlan) (a : Answers h ws before between (P.Plan r)) where
-  abbrev it : (p : Plan) × (plan_of h ws (lengthsOf before) ≡ planned p) × (scalarsIn r ≡ scalarsOf p) × (r.used ≡ usedIn p)
-  it = found (plan_of h ws (lengthsOf before)) r a.answer
+  abbrev it : (p : Plan) × (plan_of h ws (lengths_of before) ≡ planned p) × (scalars_in r ≡ scalars_of p) × (r.used ≡ used_in p)
+  it = found (plan_of h ws (lengths_of before)) r a.answer
 
   abbrev p : Plan
   p = it.0
@@ -62,7 +62,7 @@ module _ (h : Head) (ws : List ℕ) (before between : Buffers) (r : ActiveCompon
 
   pub inside : Inside
   inside =
-      let f = plan-fits-in h ws (lengthsOf before) p it.1 in
+      let f = plan_fits_in h ws (lengths_of before) p it.1 in
       let u = it.3 in record {
         steps = subst (λ (c : WordCounts). c.steps ≤ length before.steps) (sym u) f.steps;
         merges = subst (λ (c : WordCounts). c.merges ≤ length before.merges) (sym u) f.merges;
@@ -73,15 +73,15 @@ module _ (h : Head) (ws : List ℕ) (before between : Buffers) (r : ActiveCompon
       }
 
   -- what stands in front is what the file keeps
-  front-is : frontOf r between ≡ keptOf p
-  front-is =
+  front_is : front_of r between ≡ kept_of p
+  front_is =
       let u = it.3 in
-      let steps = front-of-padded _ r.used.steps p.steps between.steps (ap (λ (c : WordCounts). c.steps) u) held.steps in
-      let merges = front-of-padded _ r.used.merges p.merges between.merges (ap (λ (c : WordCounts). c.merges) u) held.merges in
-      let sizes = front-of-padded _ r.used.sizes p.sizes between.sizes (ap (λ (c : WordCounts). c.sizes) u) held.sizes in
-      let rotations = front-of-padded _ r.used.rotations p.rotations between.rotations (ap (λ (c : WordCounts). c.rotations) u) held.rotations in
-      let promotions = front-of-padded _ r.used.promotions p.promotions between.promotions (ap (λ (c : WordCounts). c.promotions) u) held.promotions in
-      let measurements = front-of-padded _ r.used.measurements p.measurements between.measurements (ap (λ (c : WordCounts). c.measurements) u) held.measurements in
+      let steps = front_of_padded _ r.used.steps p.steps between.steps (ap (λ (c : WordCounts). c.steps) u) held.steps in
+      let merges = front_of_padded _ r.used.merges p.merges between.merges (ap (λ (c : WordCounts). c.merges) u) held.merges in
+      let sizes = front_of_padded _ r.used.sizes p.sizes between.sizes (ap (λ (c : WordCounts). c.sizes) u) held.sizes in
+      let rotations = front_of_padded _ r.used.rotations p.rotations between.rotations (ap (λ (c : WordCounts). c.rotations) u) held.rotations in
+      let promotions = front_of_padded _ r.used.promotions p.promotions between.promotions (ap (λ (c : WordCounts). c.promotions) u) held.promotions in
+      let measurements = front_of_padded _ r.used.measurements p.measurements between.measurements (ap (λ (c : WordCounts). c.measurements) u) held.measurements in
       λ i. record {
         steps = steps i;
         merges = merges i;
@@ -93,41 +93,41 @@ module _ (h : Head) (ws : List ℕ) (before between : Buffers) (r : ActiveCompon
       }
 
   -- the file's length
-  file-length : length (fileOf p) ≡ 8 * wordsFor r.used
-  file-length = bytes_count (keptOf p) refl ∙ ap (λ (c : WordCounts). 8 * wordsFor c) (sym it.3)
+  file_length : length (file_of p) ≡ 8 * words_for r.used
+  file_length = bytes_count (kept_of p) refl ∙ ap (λ (c : WordCounts). 8 * words_for c) (sym it.3)
 
   -- a file too short for it
-  pub stores-short : (after : Buffers) (file filed : List ℕ) → length file / 8 < wordsFor r.used → SameLengths before between → Held (refusedAt 0 0) between after
+  pub stores_short : (after : Buffers) (file filed : List ℕ) → length file / 8 < words_for r.used → SameLengths before between → Held (refused_at 0 0) between after
       → filed ≡ padded (length file) [] → Stores h ws before after file filed (S.Refused 23 0)
-  stores-short after file filed short same zeros cleared =
-      let long = file-length in
-      let refusal : store_of h ws (lengthsOf before) (length file) ≡ refusedAt 23 0 =
-      ap (fitting (length file)) it.1 ∙ ap (λ (t : Bool). refuseAll t 23 (planned p)) (lt-ltb (length file) (length (fileOf p)) (omega arith)) in record {
-        answer = sym (ap outcomeIn refusal);
-        held = subst (λ (x : Result). Held x before after) (sym refusal) (zeros-held 0 0 23 0 before between after same zeros);
-        bytes = cleared ∙ sym (ap (heldAfter (length file) fileOf) refusal);
+  stores_short after file filed short same zeros cleared =
+      let long = file_length in
+      let refusal : store_of h ws (lengths_of before) (length file) ≡ refused_at 23 0 =
+      ap (fitting (length file)) it.1 ∙ ap (λ (t : Bool). refuse_all t 23 (planned p)) (lt-ltb (length file) (length (file_of p)) (omega arith)) in record {
+        answer = sym (ap outcome_in refusal);
+        held = subst (λ (x : Result). Held x before after) (sym refusal) (zeros_held 0 0 23 0 before between after same zeros);
+        bytes = cleared ∙ sym (ap (held_after (length file) file_of) refusal);
       }
 
   -- and one that is long enough
-  pub stores-file : (file filed : List ℕ) → wordsFor r.used ≤ length file / 8 → filed ≡ padded (length file) (bytes_of (frontOf r between))
-      → Stores h ws before between file filed (S.File (8 * wordsFor r.used))
-  stores-file file filed room written =
-      let long = file-length in
-      let plan : store_of h ws (lengthsOf before) (length file) ≡ planned p =
-      ap (fitting (length file)) it.1 ∙ ap (λ (t : Bool). refuseAll t 23 (planned p)) (le-ltb (length file) (length (fileOf p)) (omega arith)) in record {
-        answer = ap Storing.written (sym long) ∙ sym (ap outcomeIn plan);
+  pub stores_file : (file filed : List ℕ) → words_for r.used ≤ length file / 8 → filed ≡ padded (length file) (bytes_of (front_of r between))
+      → Stores h ws before between file filed (S.File (8 * words_for r.used))
+  stores_file file filed room written =
+      let long = file_length in
+      let plan : store_of h ws (lengths_of before) (length file) ≡ planned p =
+      ap (fitting (length file)) it.1 ∙ ap (λ (t : Bool). refuse_all t 23 (planned p)) (le-ltb (length file) (length (file_of p)) (omega arith)) in record {
+        answer = ap Storing.written (sym long) ∙ sym (ap outcome_in plan);
         held = subst (λ (x : Result). Held x before between) (sym plan) held;
-        bytes = written ∙ ap (λ (k : Kept). padded (length file) (bytes_of k)) front-is ∙ sym (ap (heldAfter (length file) fileOf) plan);
+        bytes = written ∙ ap (λ (k : Kept). padded (length file) (bytes_of k)) front_is ∙ sym (ap (held_after (length file) file_of) plan);
       }
 
 -- ---- a refusal of planning
 
-pub stores-refused : (h : Head) (ws : List ℕ) (before after : Buffers) (number index : ℕ) (file filed : List ℕ)
+pub stores_refused : (h : Head) (ws : List ℕ) (before after : Buffers) (number index : ℕ) (file filed : List ℕ)
     → Answers h ws before after (P.Refused number index) → filed ≡ padded (length file) [] → Stores h ws before after file filed (S.Refused number index)
-stores-refused h ws before after number index file filed a cleared =
-    let refusal = away (plan_of h ws (lengthsOf before)) number index a.answer in
-    let kept : store_of h ws (lengthsOf before) (length file) ≡ refusedAt number index = ap (fitting (length file)) refusal in record {
-      answer = sym (ap outcomeIn kept);
+stores_refused h ws before after number index file filed a cleared =
+    let refusal = away (plan_of h ws (lengths_of before)) number index a.answer in
+    let kept : store_of h ws (lengths_of before) (length file) ≡ refused_at number index = ap (fitting (length file)) refusal in record {
+      answer = sym (ap outcome_in kept);
       held = subst (λ (x : Result). Held x before after) (refusal ∙ sym kept) a.held;
-      bytes = cleared ∙ sym (ap (heldAfter (length file) fileOf) kept);
+      bytes = cleared ∙ sym (ap (held_after (length file) file_of) kept);
     }

@@ -7,42 +7,42 @@ use native.Mathlib.Omega.{arith}
 use lib.Dec.{ltb}
 use lib.ListN.{length, take}
 use Rattle.records.specs.declared.Head.{Head}
-use Rattle.definition.specs.Plan.{Plan, Result, planned, refusedAt, refuseAll, plan_of, padded, heldAfter}
+use Rattle.definition.specs.Plan.{Plan, Result, planned, refused_at, refuse_all, plan_of, padded, held_after}
 use Rattle.walk.specs.Walking as Walking
 use Rattle.walk.specs.Walking.{Buffers}
-use Rattle.component_plan.proofs.Filled.{front-of-padded}
-use Rattle.stored_plan.specs.Stored.{keptOf, fileOf}
-use Rattle.stored_plan.specs.Reading.{Read, restored, trailerWord, readFile}
-use Rattle.stored_plan.specs.Loading.{Outputs, Loads, Restored, outcomeIn, lengthsOf}
+use Rattle.component_plan.proofs.Filled.{front_of_padded}
+use Rattle.stored_plan.specs.Stored.{kept_of, file_of}
+use Rattle.stored_plan.specs.Reading.{Read, restored, trailer_word, read_file}
+use Rattle.stored_plan.specs.Loading.{Outputs, Loads, Restored, outcome_in, lengths_of}
 use Rattle.stored_plan.specs.declared.Loaded.{Loaded}
-use Rattle.stored_plan.proofs.Plans.{plan-restored, own-length}
+use Rattle.stored_plan.proofs.Plans.{plan_restored, own_length}
 use Rattle.store.specs.declared.Stored.TheVariants as S
 use Rattle.store.specs.Storing as Storing
 use Rattle.store.specs.Storing.{fitting, Stores}
 use Rattle.store.specs.Restoring.{GivesBack, Written}
 
 -- an answer with a length is that of an accepted plan
-stored-plan : (size : ℕ) (result : Result) (n : ℕ) → Storing.written n ≡ Storing.outcomeIn (fitting size result)
-    → (p : Plan) × (result ≡ planned p) × (fitting size result ≡ planned p) × (n ≡ length (fileOf p))
-stored-plan size (refusedAt number index) n e = let z : ◌≡◌ {A = ℕ} 0 1 = cc in absurd (omega arith)
-stored-plan size (planned p) n e = go (ltb size (length (fileOf p))) refl
+stored_plan : (size : ℕ) (result : Result) (n : ℕ) → Storing.written n ≡ Storing.outcome_in (fitting size result)
+    → (p : Plan) × (result ≡ planned p) × (fitting size result ≡ planned p) × (n ≡ length (file_of p))
+stored_plan size (refused_at number index) n e = let z : ◌≡◌ {A = ℕ} 0 1 = cc in absurd (omega arith)
+stored_plan size (planned p) n e = go (ltb size (length (file_of p))) refl
   where
-    go : (t : Bool) → ltb size (length (fileOf p)) ≡ t
-        → (q : Plan) × (planned p ≡ planned q) × (fitting size (planned p) ≡ planned q) × (n ≡ length (fileOf q))
+    go : (t : Bool) → ltb size (length (file_of p)) ≡ t
+        → (q : Plan) × (planned p ≡ planned q) × (fitting size (planned p) ≡ planned q) × (n ≡ length (file_of q))
     go true f =
-        let r : Storing.written n ≡ Storing.turnedAway 23 0 = e ∙ ap (λ (t : Bool). Storing.outcomeIn (refuseAll t 23 (planned p))) f in
+        let r : Storing.written n ≡ Storing.turned_away 23 0 = e ∙ ap (λ (t : Bool). Storing.outcome_in (refuse_all t 23 (planned p))) f in
         let z : ◌≡◌ {A = ℕ} 0 1 = cc in absurd (omega arith)
     go false f =
-        let fits : fitting size (planned p) ≡ planned p = ap (λ (t : Bool). refuseAll t 23 (planned p)) f in
-        let r : Storing.written n ≡ Storing.written (length (fileOf p)) = e ∙ ap Storing.outcomeIn fits in
-        let same : n ≡ length (fileOf p) = cc in (p, refl, fits, same)
+        let fits : fitting size (planned p) ≡ planned p = ap (λ (t : Bool). refuse_all t 23 (planned p)) f in
+        let r : Storing.written n ≡ Storing.written (length (file_of p)) = e ∙ ap Storing.outcome_in fits in
+        let same : n ≡ length (file_of p) = cc in (p, refl, fits, same)
 
 -- what reading gives, given back
-gives_back : (p : Plan) (file : List ℕ) (before after : Outputs) (r : Loaded) → readFile file (lengthsOf before) ≡ restored (keptOf p) → Loads file before after r
+gives_back : (p : Plan) (file : List ℕ) (before after : Outputs) (r : Loaded) → read_file file (lengths_of before) ≡ restored (kept_of p) → Loads file before after r
     → GivesBack p before after r
 gives_back p file before after r e a =
     let h = subst (λ (x : Read). Restored x before after) e a.held in record {
-      answer = a.answer ∙ ap outcomeIn e;
+      answer = a.answer ∙ ap outcome_in e;
       steps = h.steps;
       merges = h.merges;
       sizes = h.sizes;
@@ -52,22 +52,22 @@ gives_back p file before after r e a =
     }
 
 -- for every accepted program, every buffer and every file that is long enough
-pub call-written : (h : Head) (ws : List ℕ) (before after : Buffers) (file filed : List ℕ) (n : ℕ) → h.initial_k < 2 ^ 64
-    → Stores h ws before after file filed (S.File n) → (p : Plan) × (plan_of h ws (Walking.lengthsOf before) ≡ planned p) × Written p filed n
-call-written h ws before after file filed n small a =
-    let l = Walking.lengthsOf before in
-    let it = stored-plan (length file) (plan_of h ws l) n a.answer in
+pub call_written : (h : Head) (ws : List ℕ) (before after : Buffers) (file filed : List ℕ) (n : ℕ) → h.initial_k < 2 ^ 64
+    → Stores h ws before after file filed (S.File n) → (p : Plan) × (plan_of h ws (Walking.lengths_of before) ≡ planned p) × Written p filed n
+call_written h ws before after file filed n small a =
+    let l = Walking.lengths_of before in
+    let it = stored_plan (length file) (plan_of h ws l) n a.answer in
     let p = it.0 in
-    let bytes : filed ≡ padded (length file) (fileOf p) = a.bytes ∙ ap (heldAfter (length file) fileOf) it.2 in
-    let same = front-of-padded (length file) n (fileOf p) filed it.3 bytes in (
+    let bytes : filed ≡ padded (length file) (file_of p) = a.bytes ∙ ap (held_after (length file) file_of) it.2 in
+    let same = front_of_padded (length file) n (file_of p) filed it.3 bytes in (
       p,
       it.1,
       record {
         file = same;
         returned = it.3;
-        trailer = ap (λ (f : List ℕ). trailerWord f 14) same ∙ own-length h ws l p small it.1 ∙ sym it.3;
+        trailer = ap (λ (f : List ℕ). trailer_word f 14) same ∙ own_length h ws l p small it.1 ∙ sym it.3;
         back = λ lent left r long loads.
             gives_back p (take n filed) lent left r
-            (ap (λ (f : List ℕ). readFile f (lengthsOf lent)) same ∙ plan-restored h ws l p small it.1 (lengthsOf lent) long) loads;
+            (ap (λ (f : List ℕ). read_file f (lengths_of lent)) same ∙ plan_restored h ws l p small it.1 (lengths_of lent) long) loads;
       },
     )

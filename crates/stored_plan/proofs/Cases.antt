@@ -3,19 +3,19 @@ use mathlib.Core.Path.{◌≡◌, refl}
 use mathlib.Core.List.{List, [], ◌∷◌, ◌++◌, map}
 use Prim.Native.Nat.{ℕ, ◌+◌, ◌-◌, ◌*◌, ◌^◌}
 use lib.ListN.{take, set}
-use Rattle.definition.specs.Plan.{Result, planned, refusedAt, plan_of}
+use Rattle.definition.specs.Plan.{Result, planned, refused_at, plan_of}
 use Rattle.outputs.specs.declared.WordCounts.{WordCounts}
 use Rattle.file_words.specs.Words.{word_bytes}
-use Rattle.stored_plan.specs.Stored.{fileOf}
-use Rattle.stored_plan.specs.Reading.{Read, restored, refused, readFile}
+use Rattle.stored_plan.specs.Stored.{file_of}
+use Rattle.stored_plan.specs.Reading.{Read, restored, refused, read_file}
 use Rattle.stored_plan.specs.Loading.{number_of}
 
 -- ---- written
 
 -- the file of a result
-abbrev pub fileFor : Result → List ℕ
-fileFor (planned p) = fileOf p
-fileFor (refusedAt number index) = []
+abbrev pub file_for : Result → List ℕ
+file_for (planned p) = file_of p
+file_for (refused_at number index) = []
 
 -- a program with buffers for n records
 abbrev pub program : (initial max nexpvals n : ℕ) → List ℕ → Result
@@ -24,7 +24,7 @@ program initial max nexpvals n ws =
     (record { steps = 2 * n; merges = n + 512; sizes = 512; rotations = 21 * n; promotions = n; measurements = 19 * n; groups = 1024 })
 
 -- 01's circuit with max_k 61 and an expectation value: accepted unread
-pub unread-file : fileFor (program 0 61 1 0 ([]))
+pub unread_file : file_for (program 0 61 1 0 ([]))
     ≡ 0 ∷ 0 ∷ 0 ∷ 0 ∷ 0 ∷ 0 ∷ 0 ∷ 0
     ∷ 0 ∷ 0 ∷ 0 ∷ 0 ∷ 0 ∷ 0 ∷ 0 ∷ 0
     ∷ 0 ∷ 0 ∷ 0 ∷ 0 ∷ 0 ∷ 0 ∷ 0 ∷ 0
@@ -49,11 +49,11 @@ pub unread-file : fileFor (program 0 61 1 0 ([]))
     ∷ 8 ∷ 0 ∷ 0 ∷ 0 ∷ 0 ∷ 0 ∷ 0 ∷ 0
     ∷ 192 ∷ 0 ∷ 0 ∷ 0 ∷ 0 ∷ 0 ∷ 0 ∷ 0
     ∷ 1 ∷ 0 ∷ 0 ∷ 0 ∷ 0 ∷ 0 ∷ 0 ∷ 0 ∷ []
-unfolding plan_of fileOf
-unread-file = refl
+unfolding plan_of file_of
+unread_file = refl
 
 -- a rotation with no coordinate active: a global phase
-pub phase-file : fileFor (program 0 8 0 1 (0 ∷ 0 ∷ 0 ∷ 0 ∷ 0 ∷ 0 ∷ 0 ∷ 4607182418800017408 ∷ []))
+pub phase_file : file_for (program 0 8 0 1 (0 ∷ 0 ∷ 0 ∷ 0 ∷ 0 ∷ 0 ∷ 0 ∷ 4607182418800017408 ∷ []))
     ≡ 1 ∷ 0 ∷ 0 ∷ 0 ∷ 0 ∷ 0 ∷ 0 ∷ 0
     ∷ 0 ∷ 0 ∷ 0 ∷ 0 ∷ 0 ∷ 0 ∷ 0 ∷ 0
     ∷ 0 ∷ 0 ∷ 0 ∷ 0 ∷ 0 ∷ 0 ∷ 0 ∷ 0
@@ -80,11 +80,11 @@ pub phase-file : fileFor (program 0 8 0 1 (0 ∷ 0 ∷ 0 ∷ 0 ∷ 0 ∷ 0 ∷ 0
     ∷ 8 ∷ 0 ∷ 0 ∷ 0 ∷ 0 ∷ 0 ∷ 0 ∷ 0
     ∷ 208 ∷ 0 ∷ 0 ∷ 0 ∷ 0 ∷ 0 ∷ 0 ∷ 0
     ∷ 1 ∷ 0 ∷ 0 ∷ 0 ∷ 0 ∷ 0 ∷ 0 ∷ 0 ∷ []
-unfolding plan_of fileOf
-phase-file = refl
+unfolding plan_of file_of
+phase_file = refl
 
 -- a rotation of one coordinate: a row of 21 words
-pub rotation-file : fileFor (program 1 8 0 1 (0 ∷ 1 ∷ 2 ∷ 0 ∷ 0 ∷ 0 ∷ 0 ∷ 4607182418800017408 ∷ []))
+pub rotation_file : file_for (program 1 8 0 1 (0 ∷ 1 ∷ 2 ∷ 0 ∷ 0 ∷ 0 ∷ 0 ∷ 4607182418800017408 ∷ []))
     ≡ 2 ∷ 0 ∷ 0 ∷ 0 ∷ 0 ∷ 0 ∷ 0 ∷ 0
     ∷ 0 ∷ 0 ∷ 0 ∷ 0 ∷ 0 ∷ 0 ∷ 0 ∷ 0
     ∷ 0 ∷ 0 ∷ 0 ∷ 0 ∷ 0 ∷ 0 ∷ 0 ∷ 0
@@ -134,11 +134,11 @@ pub rotation-file : fileFor (program 1 8 0 1 (0 ∷ 1 ∷ 2 ∷ 0 ∷ 0 ∷ 0 �
     ∷ 8 ∷ 0 ∷ 0 ∷ 0 ∷ 0 ∷ 0 ∷ 0 ∷ 0
     ∷ 136 ∷ 1 ∷ 0 ∷ 0 ∷ 0 ∷ 0 ∷ 0 ∷ 0
     ∷ 1 ∷ 0 ∷ 0 ∷ 0 ∷ 0 ∷ 0 ∷ 0 ∷ 0 ∷ []
-unfolding plan_of fileOf
-rotation-file = refl
+unfolding plan_of file_of
+rotation_file = refl
 
 -- a measurement that empties its component: a row of 19 words
-pub measurement-file : fileFor (program 1 8 0 1 (4 ∷ 1 ∷ 0 ∷ 1 ∷ 2 ∷ 0 ∷ 0 ∷ 0 ∷ []))
+pub measurement_file : file_for (program 1 8 0 1 (4 ∷ 1 ∷ 0 ∷ 1 ∷ 2 ∷ 0 ∷ 0 ∷ 0 ∷ []))
     ≡ 4 ∷ 0 ∷ 0 ∷ 0 ∷ 0 ∷ 0 ∷ 0 ∷ 0
     ∷ 0 ∷ 0 ∷ 0 ∷ 0 ∷ 0 ∷ 0 ∷ 0 ∷ 0
     ∷ 0 ∷ 0 ∷ 0 ∷ 0 ∷ 0 ∷ 0 ∷ 0 ∷ 0
@@ -186,8 +186,8 @@ pub measurement-file : fileFor (program 1 8 0 1 (4 ∷ 1 ∷ 0 ∷ 1 ∷ 2 ∷ 0
     ∷ 8 ∷ 0 ∷ 0 ∷ 0 ∷ 0 ∷ 0 ∷ 0 ∷ 0
     ∷ 120 ∷ 1 ∷ 0 ∷ 0 ∷ 0 ∷ 0 ∷ 0 ∷ 0
     ∷ 1 ∷ 0 ∷ 0 ∷ 0 ∷ 0 ∷ 0 ∷ 0 ∷ 0 ∷ []
-unfolding plan_of fileOf
-measurement-file = refl
+unfolding plan_of file_of
+measurement_file = refl
 
 -- ---- read
 
@@ -260,22 +260,22 @@ cases =
     ∷ case (7 ∷ 0 ∷ 0 ∷ (0x7ff8_0000_0000_0001) ∷ 0 ∷ 0 ∷ 0 ∷ 0 ∷ []) alone 192 1 (room 0) 0
     ∷ []
 
-abbrev pub fileIn : Case → List ℕ
-fileIn c = word_bytes (c.front ++ (c.pointers ++ (c.bytes ∷ c.version ∷ [])))
+abbrev pub file_in : Case → List ℕ
+file_in c = word_bytes (c.front ++ (c.pointers ++ (c.bytes ∷ c.version ∷ [])))
 
-pub cases-hold : map (λ (c : Case). number_of (readFile (fileIn c) c.lent)) cases ≡ map (λ (c : Case). c.number) cases
-cases-hold = refl
+pub cases_hold : map (λ (c : Case). number_of (read_file (file_in c) c.lent)) cases ≡ map (λ (c : Case). c.number) cases
+cases_hold = refl
 
 -- 21 for a length that is no multiple of 8, and for one under 128
-pub cut_short : map (λ (n : ℕ). number_of (readFile (take n (fileIn (case (scalars 0) alone 192 1 (room 0) 0))) (room 0))) (0 ∷ 8 ∷ 120 ∷ 127 ∷ 128 ∷ 184 ∷ 191 ∷ 192 ∷ [])
+pub cut_short : map (λ (n : ℕ). number_of (read_file (take n (file_in (case (scalars 0) alone 192 1 (room 0) 0))) (room 0))) (0 ∷ 8 ∷ 120 ∷ 127 ∷ 128 ∷ 184 ∷ 191 ∷ 192 ∷ [])
     ≡ 21 ∷ 21 ∷ 21 ∷ 21 ∷ 21 ∷ 21 ∷ 21 ∷ 0 ∷ []
 cut_short = refl
 
 -- every scalar word comes back as it stands
-abbrev pub scalarsOf : Read → List ℕ
-scalarsOf (restored k) = k.scalars
-scalarsOf (refused number) = []
+abbrev pub scalars_of : Read → List ℕ
+scalars_of (restored k) = k.scalars
+scalars_of (refused number) = []
 
-pub unjudged : scalarsOf (readFile (fileIn (case (7 ∷ 1 ∷ 0 ∷ (0x7ff8_0000_0000_0001) ∷ (2 ^ 64 - 1) ∷ 2 ∷ 3 ∷ 4 ∷ []) alone 192 1 (room 0) 0)) (room 0))
+pub unjudged : scalars_of (read_file (file_in (case (7 ∷ 1 ∷ 0 ∷ (0x7ff8_0000_0000_0001) ∷ (2 ^ 64 - 1) ∷ 2 ∷ 3 ∷ 4 ∷ []) alone 192 1 (room 0) 0)) (room 0))
     ≡ 7 ∷ 1 ∷ 0 ∷ 0x7ff8_0000_0000_0001 ∷ (2 ^ 64 - 1) ∷ 2 ∷ 3 ∷ 4 ∷ []
 unjudged = refl

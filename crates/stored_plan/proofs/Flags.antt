@@ -17,6 +17,6 @@ module _ (a b c d : Bool) where
   last_of e f g = sym (ap₂ (λ (t u : Bool). t || u || c || d) e f ∙ ap (λ (t : Bool). t || d) g)
 
 -- and the last of six
-pub last-of-six : (a b c d e f : Bool) → a ≡ false → b ≡ false → c ≡ false → d ≡ false → e ≡ false → f ≡ (a || b || c || d || e || f)
-last-of-six a b c d e f p q r s t =
+pub last_of_six : (a b c d e f : Bool) → a ≡ false → b ≡ false → c ≡ false → d ≡ false → e ≡ false → f ≡ (a || b || c || d || e || f)
+last_of_six a b c d e f p q r s t =
     sym (ap₂ (λ (u v : Bool). u || v || c || d || e || f) p q ∙ ap₂ (λ (u v : Bool). u || v || e || f) r s ∙ ap (λ (u : Bool). u || f) t)

@@ -10,9 +10,9 @@ use lib.Seq.{take_at}
 use borrow.Rule.Slice.PartMut.{put_mid}
 use Rattle.definition.specs.Plan.{padded}
 
-pub section-held : (output section after : List ℕ) (n : ℕ) → n ≤ length output → length section ≡ n
+pub section_held : (output section after : List ℕ) (n : ℕ) → n ≤ length output → length section ≡ n
     → after ≡ take n (put_mid 0 (n - 0) output section) ++ replicate (length (put_mid 0 (n - 0) output section) - n) 0 → after ≡ padded (length output) section
-section-held output section after n room long e =
+section_held output section after n room long e =
     let whole = length-append section (drop n output) in
     let rest = length-drop n output in
     let zeros : length (section ++ drop n output) - n ≡ length output - length section = omega arith in

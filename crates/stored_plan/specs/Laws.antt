@@ -15,11 +15,11 @@ pub record LongEnough (p : Plan) (lent : WordCounts) : Type 0 where
 -- two plans have "these fields and every row" in common: the eight scalar fields, works as floats, and the first six outputs
 pub record SamePlan (p q : Plan) : Type 0 where
   pub selected : p.selected ≡ q.selected
-  pub initialComponents : p.initialComponents ≡ q.initialComponents
-  pub componentCount : p.componentCount ≡ q.componentCount
-  pub denseWork : p.denseWork ≡ q.denseWork
-  pub componentWork : p.componentWork ≡ q.componentWork
-  pub densePeak : p.densePeak ≡ q.densePeak
+  pub initial_components : p.initial_components ≡ q.initial_components
+  pub component_count : p.component_count ≡ q.component_count
+  pub dense_work : p.dense_work ≡ q.dense_work
+  pub component_work : p.component_work ≡ q.component_work
+  pub dense_peak : p.dense_peak ≡ q.dense_peak
   pub peak : p.peak ≡ q.peak
   pub allocated : p.allocated ≡ q.allocated
   pub steps : p.steps ≡ q.steps

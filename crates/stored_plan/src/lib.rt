@@ -1,11 +1,11 @@
 // Reading a stored plan: refusals 21 to 23, and else its sections into six lent outputs. The words come back as they stand:
 // only the trailer and component_count are looked at.
 ghost use Rattle.std.specs.Prelude.{◌≡◌, map, ◌+◌, ◌*◌, ◌≤◌, length};
-ghost use Rattle.definition.specs.Lists.{numbersFrom};
+ghost use Rattle.definition.specs.Lists.{numbers_from};
 ghost use Rattle.definition.specs.Plan.{padded};
-ghost use Rattle.file_words.specs.Words.{word_at, wordsAt};
-ghost use Rattle.stored_plan.specs.Reading.{fileRefused, touch, oddCounts, outputsShort, readFile};
-ghost use Rattle.stored_plan.specs.Loading.{Loads, number_of, scalarList, countsAt, SectionFits};
+ghost use Rattle.file_words.specs.Words.{word_at, words_at};
+ghost use Rattle.stored_plan.specs.Reading.{file_refused, touch, odd_counts, outputs_short, read_file};
+ghost use Rattle.stored_plan.specs.Loading.{Loads, number_of, scalar_list, counts_at, SectionFits};
 
 use file_words::{get_words, word_at};
 use outputs::WordCounts;
@@ -38,7 +38,7 @@ pub enum Loaded {
 
 // Whether the bytes are no file at all: their number, or the length or the version in the trailer.
 fn file_refused(file: &[u8]) -> bool
-    ensures { result ≡ fileRefused file.now }
+    ensures { result ≡ file_refused file.now }
 {
     let n = file.len();
     if n < 128 {
@@ -57,7 +57,7 @@ fn file_refused(file: &[u8]) -> bool
 // Whether the seven sections touch, in order, from word 0 to the trailer. No sum is formed that could wrap.
 fn sections_touch(file: &[u8], trailer: usize) -> bool
     requires { 8 * (trailer + 16) ≤ length file.now }
-    ensures { result ≡ touch 0 trailer (map (λ i. word_at file.now (trailer + i)) (numbersFrom 0 14)) }
+    ensures { result ≡ touch 0 trailer (map (λ i. word_at file.now (trailer + i)) (numbers_from 0 14)) }
 {
     let mut at: usize = 0;
     let mut s: usize = 0;
@@ -79,7 +79,7 @@ fn sections_touch(file: &[u8], trailer: usize) -> bool
 // How many words each of the six sections has, by the trailer.
 fn counts_at(file: &[u8], trailer: usize) -> WordCounts
     requires { 8 * (trailer + 16) ≤ length file.now }
-    ensures { result ≡ countsAt file.now trailer }
+    ensures { result ≡ counts_at file.now trailer }
 {
     WordCounts {
         steps: word_at(file, trailer + 1) as usize,
@@ -93,7 +93,7 @@ fn counts_at(file: &[u8], trailer: usize) -> WordCounts
 
 // Whether an output is shorter than its section.
 fn outputs_short(lent: WordCounts, counts: WordCounts) -> bool
-    ensures { result ≡ outputsShort lent counts }
+    ensures { result ≡ outputs_short lent counts }
 {
     if lent.steps < counts.steps {
         return true;
@@ -115,7 +115,7 @@ fn outputs_short(lent: WordCounts, counts: WordCounts) -> bool
 
 // Whether counts are not those of a plan with so many components.
 fn counts_odd(counts: WordCounts, components: u64) -> bool
-    ensures { result ≡ oddCounts counts components }
+    ensures { result ≡ odd_counts counts components }
 {
     if counts.steps % 2 != 0 {
         return true;
@@ -131,7 +131,7 @@ fn counts_odd(counts: WordCounts, components: u64) -> bool
 
 // 21 to 23, or 0.
 fn load_number(file: &[u8], lent: WordCounts) -> u64
-    ensures { result ≡ number_of (readFile file.now lent) }
+    ensures { result ≡ number_of (read_file file.now lent) }
 {
     if file_refused(file) {
         return 21;
@@ -153,7 +153,7 @@ fn load_number(file: &[u8], lent: WordCounts) -> u64
 // Reads the section whose start and count are two words of the trailer, with zeros behind it.
 fn get_section(file: &[u8], trailer: usize, pointer: usize, output: &mut [u64])
     requires { SectionFits file.now trailer pointer (length output.old) }
-    ensures { output.new ≡ padded (length output.old) (wordsAt file.now (word_at file.now (trailer + pointer)) (word_at file.now (trailer + (pointer + 1)))) }
+    ensures { output.new ≡ padded (length output.old) (words_at file.now (word_at file.now (trailer + pointer)) (word_at file.now (trailer + (pointer + 1)))) }
 {
     let start = word_at(file, trailer + pointer) as usize;
     let count = word_at(file, trailer + (pointer + 1)) as usize;
@@ -164,7 +164,7 @@ fn get_section(file: &[u8], trailer: usize, pointer: usize, output: &mut [u64])
 // The eight scalar words from a word on.
 fn scalars_at(file: &[u8], at: usize) -> ScalarWords
     requires { 8 * (at + 8) ≤ length file.now }
-    ensures { scalarList result ≡ wordsAt file.now at 8 }
+    ensures { scalar_list result ≡ words_at file.now at 8 }
 {
     ScalarWords {
         selected: word_at(file, at),

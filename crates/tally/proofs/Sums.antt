@@ -5,33 +5,33 @@ use native.Mathlib.Nat.{mod-add-mod, add-mod-mod, mul-mod_left}
 use lib.Ieee.{Float, binary64, fin, add, mul}
 use lib.Pow.{pow-lt}
 use Rattle.kernels.specs.Bits.{exp2}
-use Rattle.definition.specs.Components.{twoF}
-use Rattle.tally.specs.Tally.{sizesOf, powers, costIn, wholeCostIn, powerLeft, joiningOf}
+use Rattle.definition.specs.Components.{two_f}
+use Rattle.tally.specs.Tally.{sizes_of, powers, cost_in, whole_cost_in, power_left, joining_of}
 use Rattle.tally.specs.declared.Joining.{Joining}
 use Rattle.positions.proofs.Arrays.{rest_at}
 
 -- the dimension without a member is no more than that with it
-either-below : (b : Bool) (x y : ℕ) → x ≤ y → cond b 0 x ≤ y
-either-below true x y h = omega arith
-either-below false x y h = h
+either_below : (b : Bool) (x y : ℕ) → x ≤ y → cond b 0 x ≤ y
+either_below true x y h = omega arith
+either_below false x y h = h
 
-pub left_below : (s : ℕ) → powerLeft s ≤ 2 ^ s
-left_below s = either-below (leb s 1) (2 ^ (s - 1)) (2 ^ s) (pow_mono (omega arith))
+pub left_below : (s : ℕ) → power_left s ≤ 2 ^ s
+left_below s = either_below (leb s 1) (2 ^ (s - 1)) (2 ^ s) (pow_mono (omega arith))
 
 -- ---- modulo 2 ^ 64
 
 -- nothing of a power of 64 or more is left
-pub power-gone : (k : ℕ) → 64 ≤ k → 2 ^ k % 2 ^ 64 ≡ 0
-power-gone k h =
+pub power_gone : (k : ℕ) → 64 ≤ k → 2 ^ k % 2 ^ 64 ≡ 0
+power_gone k h =
     let same : k - 64 + 64 ≡ k = omega arith in
     ap (λ (n : ℕ). n % 2 ^ 64) (sym (ap (λ (n : ℕ). 2 ^ n) same) ∙ pow-add 2 (k - 64) 64) ∙ mul-mod_left (2 ^ (k - 64)) (2 ^ 64)
 
-pub double-gone : (k : ℕ) → 63 ≤ k → 2 * 2 ^ k % 2 ^ 64 ≡ 0
-double-gone k h = let same : 2 * 2 ^ k ≡ 2 ^ (k + 1) = sym (pow-add 2 k 1 ∙ omega arith) in ap (λ (n : ℕ). n % 2 ^ 64) same ∙ power-gone (k + 1) (omega arith)
+pub double_gone : (k : ℕ) → 63 ≤ k → 2 * 2 ^ k % 2 ^ 64 ≡ 0
+double_gone k h = let same : 2 * 2 ^ k ≡ 2 ^ (k + 1) = sym (pow-add 2 k 1 ∙ omega arith) in ap (λ (n : ℕ). n % 2 ^ 64) same ∙ power_gone (k + 1) (omega arith)
 
 -- and below that all is
-pub double-kept : (k : ℕ) → k < 63 → 2 ^ (k + 1) ≡ 2 * 2 ^ k % 2 ^ 64
-double-kept k h =
+pub double_kept : (k : ℕ) → k < 63 → 2 ^ (k + 1) ≡ 2 * 2 ^ k % 2 ^ 64
+double_kept k h =
     let same : 2 ^ (k + 1) ≡ 2 * 2 ^ k = pow-add 2 k 1 ∙ omega arith in
     let small = pow-lt {i = k + 1} {j = 64} (omega arith) in same ∙ sym (mod-eq_of_lt (omega arith))
 
@@ -40,69 +40,69 @@ pub wraps : (sum before more full : ℕ) → sum ≡ (before + more) % 2 ^ 64 �
 wraps sum before more full e m = e ∙ ap (λ (n : ℕ). (before + n) % 2 ^ 64) m ∙ add-mod-mod before full (2 ^ 64)
 
 -- sums so far that are kept modulo 2 ^ 64, with more added
-pub kept-sum : (kept full more : ℕ) → kept ≡ full % 2 ^ 64 → (kept + more) % 2 ^ 64 ≡ (full + more) % 2 ^ 64
-kept-sum kept full more e = ap (λ (n : ℕ). (n + more) % 2 ^ 64) e ∙ mod-add-mod full (2 ^ 64) more
+pub kept_sum : (kept full more : ℕ) → kept ≡ full % 2 ^ 64 → (kept + more) % 2 ^ 64 ≡ (full + more) % 2 ^ 64
+kept_sum kept full more e = ap (λ (n : ℕ). (n + more) % 2 ^ 64) e ∙ mod-add-mod full (2 ^ 64) more
 
 -- and with a joining cost, kept so too, before it
-pub kept-joined : (kept full cost paid more : ℕ) → kept ≡ full % 2 ^ 64 → cost ≡ paid % 2 ^ 64 → ((kept + cost) % 2 ^ 64 + more) % 2 ^ 64 ≡ (full + (paid + more)) % 2 ^ 64
-kept-joined kept full cost paid more e c =
-    ap (λ (n : ℕ). (n + more) % 2 ^ 64) (kept-sum kept full cost e ∙ wraps ((full + cost) % 2 ^ 64) full cost paid refl c)
+pub kept_joined : (kept full cost paid more : ℕ) → kept ≡ full % 2 ^ 64 → cost ≡ paid % 2 ^ 64 → ((kept + cost) % 2 ^ 64 + more) % 2 ^ 64 ≡ (full + (paid + more)) % 2 ^ 64
+kept_joined kept full cost paid more e c =
+    ap (λ (n : ℕ). (n + more) % 2 ^ 64) (kept_sum kept full cost e ∙ wraps ((full + cost) % 2 ^ 64) full cost paid refl c)
     ∙ mod-add-mod (full + paid) (2 ^ 64) more
     ∙ ap (λ (n : ℕ). n % 2 ^ 64) (add_assoc full paid more)
 
 -- ---- sources
 
 module _ (size sources : List ℕ) (i : ℕ) (inside : i < length sources) where
-  pub sizes-at : sizesOf size (drop i sources) ≡ get_or size (get_or sources i 0) 0 + sizesOf size (drop (i + 1) sources)
-  sizes-at = ap (λ (l : List ℕ). sizesOf size l) (rest_at sources i inside)
+  pub sizes_at : sizes_of size (drop i sources) ≡ get_or size (get_or sources i 0) 0 + sizes_of size (drop (i + 1) sources)
+  sizes_at = ap (λ (l : List ℕ). sizes_of size l) (rest_at sources i inside)
 
-  pub powers-at : powers size (drop i sources) ≡ 2 ^ get_or size (get_or sources i 0) 0 + powers size (drop (i + 1) sources)
-  powers-at = ap (λ (l : List ℕ). powers size l) (rest_at sources i inside)
+  pub powers_at : powers size (drop i sources) ≡ 2 ^ get_or size (get_or sources i 0) 0 + powers size (drop (i + 1) sources)
+  powers_at = ap (λ (l : List ℕ). powers size l) (rest_at sources i inside)
 
-  pub cost-next : (grown more : ℕ) (cost power : Float)
+  pub cost_next : (grown more : ℕ) (cost power : Float)
       → more ≡ get_or size (get_or sources i 0) 0
       → power ≡ exp2 (grown + more)
-      → costIn size (grown + more) (add binary64 cost (mul binary64 twoF power)) (drop (i + 1) sources)
-      ≡ costIn size grown cost (drop i sources)
-  cost-next grown more cost power e p = rw (p, e) (sym (ap (λ (l : List ℕ). costIn size grown cost l) (rest_at sources i inside)))
+      → cost_in size (grown + more) (add binary64 cost (mul binary64 two_f power)) (drop (i + 1) sources)
+      ≡ cost_in size grown cost (drop i sources)
+  cost_next grown more cost power e p = rw (p, e) (sym (ap (λ (l : List ℕ). cost_in size grown cost l) (rest_at sources i inside)))
 
   -- the whole cost so far with that of the sources from i on, where one source more is paid modulo 2 ^ 64
-  pub whole-next : (grown more whole next power : ℕ)
+  pub whole_next : (grown more whole next power : ℕ)
       → more ≡ get_or size (get_or sources i 0) 0
       → power ≡ 2 * 2 ^ (grown + more) % 2 ^ 64
       → next ≡ (whole + power) % 2 ^ 64
-      → (next + wholeCostIn size (grown + more) (drop (i + 1) sources)) % 2 ^ 64
-      ≡ (whole + wholeCostIn size grown (drop i sources)) % 2 ^ 64
-  whole-next grown more whole next power e p n =
-      let rest = wholeCostIn size (grown + more) (drop (i + 1) sources) in
+      → (next + whole_cost_in size (grown + more) (drop (i + 1) sources)) % 2 ^ 64
+      ≡ (whole + whole_cost_in size grown (drop i sources)) % 2 ^ 64
+  whole_next grown more whole next power e p n =
+      let rest = whole_cost_in size (grown + more) (drop (i + 1) sources) in
       let paid = 2 * 2 ^ (grown + more) in
-      let parts : wholeCostIn size grown (drop i sources) ≡ paid + rest =
-      ap (λ (l : List ℕ). wholeCostIn size grown l) (rest_at sources i inside) ∙ ap (λ (m : ℕ). 2 * 2 ^ (grown + m) + wholeCostIn size (grown + m) (drop (i + 1) sources)) (sym e) in
+      let parts : whole_cost_in size grown (drop i sources) ≡ paid + rest =
+      ap (λ (l : List ℕ). whole_cost_in size grown l) (rest_at sources i inside) ∙ ap (λ (m : ℕ). 2 * 2 ^ (grown + m) + whole_cost_in size (grown + m) (drop (i + 1) sources)) (sym e) in
       ap (λ (m : ℕ). (m + rest) % 2 ^ 64) (n ∙ ap (λ (m : ℕ). (whole + m) % 2 ^ 64) p ∙ add-mod-mod whole paid (2 ^ 64))
       ∙ mod-add-mod (whole + paid) (2 ^ 64) rest
       ∙ ap (λ (m : ℕ). m % 2 ^ 64) (add_assoc whole paid rest ∙ ap (λ (m : ℕ). whole + m) (sym parts))
 
 -- where no source is left, the sums are those of the join
-pub all-joined : (size sources : List ℕ) (i grown freed whole : ℕ) (cost : Float)
+pub all_joined : (size sources : List ℕ) (i grown freed whole : ℕ) (cost : Float)
     → length sources ≤ i
-    → grown + sizesOf size (drop i sources) ≡ sizesOf size sources
+    → grown + sizes_of size (drop i sources) ≡ sizes_of size sources
     → freed + powers size (drop i sources) ≡ powers size sources
-    → costIn size grown cost (drop i sources) ≡ costIn size (get_or size (get_or sources 0 0) 0) (fin false 0 (pos 0)) (drop 1 sources)
+    → cost_in size grown cost (drop i sources) ≡ cost_in size (get_or size (get_or sources 0 0) 0) (fin false 0 (pos 0)) (drop 1 sources)
     → whole < 2 ^ 64
-    → (whole + wholeCostIn size grown (drop i sources)) % 2 ^ 64 ≡ wholeCostIn size (get_or size (get_or sources 0 0) 0) (drop 1 sources) % 2 ^ 64
+    → (whole + whole_cost_in size grown (drop i sources)) % 2 ^ 64 ≡ whole_cost_in size (get_or size (get_or sources 0 0) 0) (drop 1 sources) % 2 ^ 64
     → ◌≡◌ {A = Joining}
     (record { count = length sources; target = get_or sources 0 0; size = grown; cost = cost; whole_cost = whole; freed = freed })
-    (joiningOf size sources)
-unfolding joiningOf
-all-joined size sources i grown freed whole cost past sizes dims costs small wholes =
+    (joining_of size sources)
+unfolding joining_of
+all_joined size sources i grown freed whole cost past sizes dims costs small wholes =
     let none = drop_of_length-le sources {i = i} past in
-    let left : sizesOf size (drop i sources) ≡ 0 = ap (λ (l : List ℕ). sizesOf size l) none in
+    let left : sizes_of size (drop i sources) ≡ 0 = ap (λ (l : List ℕ). sizes_of size l) none in
     let gone : powers size (drop i sources) ≡ 0 = ap (λ (l : List ℕ). powers size l) none in
-    let paid : costIn size grown cost (drop i sources) ≡ cost = ap (λ (l : List ℕ). costIn size grown cost l) none in
-    let s : grown ≡ sizesOf size sources = omega arith in
+    let paid : cost_in size grown cost (drop i sources) ≡ cost = ap (λ (l : List ℕ). cost_in size grown cost l) none in
+    let s : grown ≡ sizes_of size sources = omega arith in
     let f : freed ≡ powers size sources = omega arith in
-    let nothing : wholeCostIn size grown (drop i sources) ≡ 0 = ap (λ (l : List ℕ). wholeCostIn size grown l) none in
-    let all : whole + wholeCostIn size grown (drop i sources) ≡ whole = omega arith in
+    let nothing : whole_cost_in size grown (drop i sources) ≡ 0 = ap (λ (l : List ℕ). whole_cost_in size grown l) none in
+    let all : whole + whole_cost_in size grown (drop i sources) ≡ whole = omega arith in
     let kept : whole % 2 ^ 64 ≡ whole = mod-eq_of_lt small in
     let w = sym (ap (λ (n : ℕ). n % 2 ^ 64) all ∙ kept) ∙ wholes in
     simp (s, f, sym paid ∙ costs, w)

@@ -4,38 +4,38 @@ use Rattle.std.specs.Float.{fin, binary64}
 use Rattle.std.specs.Float.Ieee.{add, mul}
 use Rattle.kernels.specs.Bits.{exp2}
 use Rattle.definition.specs.Lists.{total}
-use Rattle.definition.specs.Components.{twoF}
-use Rattle.definition.specs.WholeWorks.{WholeWorks, tooWide, withoutQuotient, withQuotient}
+use Rattle.definition.specs.Components.{two_f}
+use Rattle.definition.specs.WholeWorks.{WholeWorks, too_wide, without_quotient, with_quotient}
 use Rattle.tally.specs.declared.Joining.{Joining}
 use Rattle.tally.specs.declared.Tally.{Tally}
 use Rattle.tally.specs.declared.WholeWorks as Declared
 use Rattle.tally.specs.declared.WholeWorks.TheVariants as W
 
 -- how many members the listed components have together, and their dimensions together, by the sizes
-abbrev pub sizesOf : List ℕ → List ℕ → ℕ
-sizesOf size ss = total (map (λ s. slice_index size s) ss)
+abbrev pub sizes_of : List ℕ → List ℕ → ℕ
+sizes_of size ss = total (map (λ s. slice_index size s) ss)
 
 abbrev pub powers : List ℕ → List ℕ → ℕ
 powers size ss = total (map (λ s. 2 ^ slice_index size s) ss)
 
 -- "the sum, from 0, of 2·2^(size so far) after each source but the target"
-abbrev pub costIn : List ℕ → ℕ → Float → List ℕ → Float
-costIn size grown sum [] = sum
-costIn size grown sum (s ∷ ss) =
-    let next = grown + slice_index_or size s 0 in costIn size next (add binary64 sum (mul binary64 twoF (exp2 next))) ss
+abbrev pub cost_in : List ℕ → ℕ → Float → List ℕ → Float
+cost_in size grown sum [] = sum
+cost_in size grown sum (s ∷ ss) =
+    let next = grown + slice_index_or size s 0 in cost_in size next (add binary64 sum (mul binary64 two_f (exp2 next))) ss
 
 -- the same sum as a whole number
-abbrev pub wholeCostIn : List ℕ → ℕ → List ℕ → ℕ
-wholeCostIn size grown [] = 0
-wholeCostIn size grown (s ∷ ss) = let next = grown + slice_index_or size s 0 in 2 * 2 ^ next + wholeCostIn size next ss
+abbrev pub whole_cost_in : List ℕ → ℕ → List ℕ → ℕ
+whole_cost_in size grown [] = 0
+whole_cost_in size grown (s ∷ ss) = let next = grown + slice_index_or size s 0 in 2 * 2 ^ next + whole_cost_in size next ss
 
-unfoldable pub joiningOf : List ℕ → List ℕ → Joining
-joiningOf size sources = record {
+unfoldable pub joining_of : List ℕ → List ℕ → Joining
+joining_of size sources = record {
   count = length sources;
   target = slice_index sources 0;
-  size = sizesOf size sources;
-  cost = costIn size (slice_index size (slice_index sources 0)) (fin false 0 (pos 0)) (drop 1 sources);
-  whole_cost = wholeCostIn size (slice_index size (slice_index sources 0)) (drop 1 sources) % 2 ^ 64;
+  size = sizes_of size sources;
+  cost = cost_in size (slice_index size (slice_index sources 0)) (fin false 0 (pos 0)) (drop 1 sources);
+  whole_cost = whole_cost_in size (slice_index size (slice_index sources 0)) (drop 1 sources) % 2 ^ 64;
   freed = powers size sources;
 }
 
@@ -43,7 +43,7 @@ joiningOf size sources = record {
 pub record Countable (size sources : List ℕ) : Type 0 where
   pub some : 0 < length sources
   pub numbers : (i : ℕ) → slice_index sources i < 512
-  pub few : sizesOf size sources < 64
+  pub few : sizes_of size sources < 64
   pub fits : powers size sources < 2 ^ 64
 
 -- what the sums have to be so that a join fits them
@@ -55,11 +55,11 @@ pub record JoinFits (t : Tally) (j : Joining) : Type 0 where
   pub quantum : t.quantum + 1 < 2 ^ 64
 
 -- the dimension that a component of a size has without one of its members
-abbrev pub powerLeft : ℕ → ℕ
-powerLeft size = cond (nat_le size 1) 0 (2 ^ (size - 1))
+abbrev pub power_left : ℕ → ℕ
+power_left size = cond (nat_le size 1) 0 (2 ^ (size - 1))
 
-unfoldable pub startTally : ℕ → Tally
-startTally k = record {
+unfoldable pub start_tally : ℕ → Tally
+start_tally k = record {
   dense = fin false 0 (pos 0);
   work = fin false 0 (pos 0);
   whole_dense = 0;
@@ -75,8 +75,8 @@ startTally k = record {
 }
 
 -- "that sum is then added to the component work"
-unfoldable pub joinedTally : Tally → Joining → Tally
-joinedTally t j =
+unfoldable pub joined_tally : Tally → Joining → Tally
+joined_tally t j =
     let live = t.live - j.freed + 2 ^ j.size in record {
       dense = t.dense;
       work = add binary64 t.work j.cost;
@@ -93,8 +93,8 @@ joinedTally t j =
     }
 
 -- "At k = 0 ... still adds dense work 1"
-unfoldable pub ignoredTally : Tally → Tally
-ignoredTally t = record {
+unfoldable pub ignored_tally : Tally → Tally
+ignored_tally t = record {
   dense = add binary64 t.dense (exp2 0);
   work = t.work;
   whole_dense = (t.whole_dense + 1) % 2 ^ 64;
@@ -110,10 +110,10 @@ ignoredTally t = record {
 }
 
 -- "Rotation: dense work + 2^k; join; component work + (2^size + 32)"
-unfoldable pub rotatedTally : Tally → Joining → ℕ → Tally
-unfolding joinedTally
-rotatedTally t j k =
-    let next = joinedTally t j in record {
+unfoldable pub rotated_tally : Tally → Joining → ℕ → Tally
+unfolding joined_tally
+rotated_tally t j k =
+    let next = joined_tally t j in record {
       dense = add binary64 next.dense (exp2 k);
       work = add binary64 next.work (add binary64 (exp2 j.size) (fin false 1 (pos 5)));
       whole_dense = (next.whole_dense + 2 ^ k) % 2 ^ 64;
@@ -129,9 +129,9 @@ rotatedTally t j k =
     }
 
 -- "Promotion: dense + 2·2^k; ... component + 34"
-unfoldable pub promotedTally : Tally → ℕ → Tally
-promotedTally t k = record {
-  dense = add binary64 t.dense (mul binary64 twoF (exp2 k));
+unfoldable pub promoted_tally : Tally → ℕ → Tally
+promoted_tally t k = record {
+  dense = add binary64 t.dense (mul binary64 two_f (exp2 k));
   work = add binary64 t.work (fin false 17 (pos 1));
   whole_dense = (t.whole_dense + 2 * 2 ^ k) % 2 ^ 64;
   whole_work = (t.whole_work + 34) % 2 ^ 64;
@@ -146,16 +146,16 @@ promotedTally t k = record {
 }
 
 -- "Measurement, flag 0: dense + 2·2^k; join; component + (2·2^size + 32), size before removal"
-unfoldable pub measuredTally : Tally → Joining → ℕ → Tally
-unfolding joinedTally
-measuredTally t j k =
-    let next = joinedTally t j in record {
-      dense = add binary64 next.dense (mul binary64 twoF (exp2 k));
-      work = add binary64 next.work (add binary64 (mul binary64 twoF (exp2 j.size)) (fin false 1 (pos 5)));
+unfoldable pub measured_tally : Tally → Joining → ℕ → Tally
+unfolding joined_tally
+measured_tally t j k =
+    let next = joined_tally t j in record {
+      dense = add binary64 next.dense (mul binary64 two_f (exp2 k));
+      work = add binary64 next.work (add binary64 (mul binary64 two_f (exp2 j.size)) (fin false 1 (pos 5)));
       whole_dense = (next.whole_dense + 2 * 2 ^ k) % 2 ^ 64;
       whole_work = (next.whole_work + (2 * 2 ^ j.size + 32)) % 2 ^ 64;
       widest = next.widest;
-      live = next.live - 2 ^ j.size + powerLeft j.size;
+      live = next.live - 2 ^ j.size + power_left j.size;
       peak = next.peak;
       merges = next.merges;
       rotations = next.rotations;
@@ -165,7 +165,7 @@ measuredTally t j k =
     }
 
 -- the code's whole works as the definition has them
-abbrev pub worksOf : Declared.WholeWorks → WholeWorks
-worksOf W.TooWide = tooWide
-worksOf (W.WithoutQuotient dense) = withoutQuotient dense
-worksOf (W.WithQuotient dense component quotient remainder) = withQuotient dense component quotient remainder
+abbrev pub works_of : Declared.WholeWorks → WholeWorks
+works_of W.TooWide = too_wide
+works_of (W.WithoutQuotient dense) = without_quotient dense
+works_of (W.WithQuotient dense component quotient remainder) = with_quotient dense component quotient remainder

@@ -2,8 +2,8 @@
 // rounded once. Beside them the works are kept as whole numbers modulo 2^64; they are handed out where no width passed 38,
 // and there they did not wrap.
 ghost use Rattle.std.specs.Prelude.{◌≡◌, ◌+◌, ◌*◌, ◌%◌, ◌^◌, ◌<◌, ◌≤◌, max, slice_index};
-ghost use Rattle.definition.specs.WholeWorks.{wholeWorksOf};
-ghost use Rattle.tally.specs.Tally.{Countable, joiningOf, JoinFits, startTally, joinedTally, ignoredTally, rotatedTally, promotedTally, measuredTally, powerLeft, worksOf};
+ghost use Rattle.definition.specs.WholeWorks.{whole_works_of};
+ghost use Rattle.tally.specs.Tally.{Countable, joining_of, JoinFits, start_tally, joined_tally, ignored_tally, rotated_tally, promoted_tally, measured_tally, power_left, works_of};
 
 use kernels::bits::exact_exp2;
 use std::num::wrapping_add_u64;
@@ -82,7 +82,7 @@ fn double_low(k: u64) -> u64
 // The dimension that a component has without one of its members.
 fn power_left(size: u64) -> u64
     requires { size < 64 }
-    ensures { result ≡ powerLeft size }
+    ensures { result ≡ power_left size }
 {
     if size <= 1 { 0 } else { power(size - 1) }
 }
@@ -113,7 +113,7 @@ fn size_at(size: &[u8; 512], component: u64) -> u64
 // The join of the sources.
 pub fn join_of(size: &[u8; 512], sources: &[u64]) -> Joining
     requires { Countable size.now sources.now }
-    ensures { result ≡ joiningOf size.now sources.now }
+    ensures { result ≡ joining_of size.now sources.now }
 {
     let target = sources[0];
     let mut grown = size_at(size, target);
@@ -143,7 +143,7 @@ impl Tally {
     // Before the first record, with k coordinates, each alone.
     pub fn start(k: u64) -> Self
         requires { k ≤ 512 }
-        ensures { result ≡ startTally k }
+        ensures { result ≡ start_tally k }
     {
         Tally {
             dense: 0.0,
@@ -164,7 +164,7 @@ impl Tally {
     // After a join.
     fn joined(mut self, join: Joining) -> Self
         requires { JoinFits self join }
-        ensures { result ≡ joinedTally self join }
+        ensures { result ≡ joined_tally self join }
     {
         self.live = self.live - join.freed + power(join.size);
         self.peak = larger(self.peak, self.live);
@@ -178,7 +178,7 @@ impl Tally {
     // After a rotation of no coordinates.
     pub fn ignored(mut self) -> Self
         requires { self.quantum + 1 < 2 ^ 64 }
-        ensures { result ≡ ignoredTally self }
+        ensures { result ≡ ignored_tally self }
     {
         self.dense = self.dense + exact_exp2(0);
         self.whole_dense = wrapping_add_u64(self.whole_dense, 1);
@@ -190,7 +190,7 @@ impl Tally {
     pub fn rotated(self, join: Joining, k: u64) -> Self
         requires fact_1 { JoinFits self join }
         requires fact_2 { self.rotations + 1 < 2 ^ 64 }
-        ensures { result ≡ rotatedTally self join k }
+        ensures { result ≡ rotated_tally self join k }
     {
         let mut next = self.joined(join);
         next.dense = next.dense + exact_exp2(k);
@@ -207,7 +207,7 @@ impl Tally {
         requires fact_2 { self.live + 2 < 2 ^ 64 }
         requires fact_3 { self.promotions + 1 < 2 ^ 64 }
         requires fact_4 { self.quantum + 1 < 2 ^ 64 }
-        ensures { result ≡ promotedTally self k }
+        ensures { result ≡ promoted_tally self k }
     {
         self.dense = self.dense + 2.0 * exact_exp2(k);
         self.work = self.work + 34.0;
@@ -225,7 +225,7 @@ impl Tally {
     pub fn measured(self, join: Joining, k: u64) -> Self
         requires fact_1 { JoinFits self join }
         requires fact_2 { self.measurements + 1 < 2 ^ 64 }
-        ensures { result ≡ measuredTally self join k }
+        ensures { result ≡ measured_tally self join k }
     {
         let mut next = self.joined(join);
         next.dense = next.dense + 2.0 * exact_exp2(k);
@@ -240,7 +240,7 @@ impl Tally {
 
     // The works as whole numbers, and how many times the component work goes into the dense one.
     pub fn whole_works(self) -> WholeWorks
-        ensures { worksOf result ≡ wholeWorksOf (record { dense = self.whole_dense; component = self.whole_work; widest = self.widest }) }
+        ensures { works_of result ≡ whole_works_of (record { dense = self.whole_dense; component = self.whole_work; widest = self.widest }) }
     {
         let dense = self.whole_dense;
         let component = self.whole_work;

@@ -11,92 +11,92 @@ use Rattle.records.specs.declared.Instruction.{Instruction}
 use Rattle.records.specs.declared.Instruction.TheVariants.{Rotation, Measurement}
 use Rattle.definition.proofs.Steps.{cond_yes, cond_no}
 use Rattle.outputs.specs.Buffers.{patch}
-use Rattle.positions.specs.Positions.{sourcesIn}
-use Rattle.tally.specs.Tally.{joiningOf}
+use Rattle.positions.specs.Positions.{sources_in}
+use Rattle.tally.specs.Tally.{joining_of}
 use Rattle.tally.specs.declared.Joining.{Joining}
-use Rattle.turns.specs.Turns.{sourcesAt, numberBefore, sourcesBefore, WhereJoined, noJoining, joinBefore}
+use Rattle.turns.specs.Turns.{sources_at, number_before, sources_before, WhereJoined, no_joining, join_before}
 use Rattle.turns.specs.declared.Opening.{Opening}
-use Rattle.turns.proofs.Patches.{patch-none}
+use Rattle.turns.proofs.Patches.{patch_none}
 
 -- ---- a rotation
 
-pub rotation-refused : (width : ℕ) (sources : ℕ → ℕ → List ℕ) {i : Instruction} {w x z phase : ℕ} {angle sine cosine : Float} → i ≡ Rotation w x z phase angle sine cosine → (w ≡ width → ⊥)
-    → (numberBefore width i ≡ 11) × (sourcesBefore width sources i ≡ [])
-unfolding numberBefore sourcesBefore
-rotation-refused width sources {i} {w} {x} {z} {phase} {angle} {sine} {cosine} e h =
+pub rotation_refused : (width : ℕ) (sources : ℕ → ℕ → List ℕ) {i : Instruction} {w x z phase : ℕ} {angle sine cosine : Float} → i ≡ Rotation w x z phase angle sine cosine → (w ≡ width → ⊥)
+    → (number_before width i ≡ 11) × (sources_before width sources i ≡ [])
+unfolding number_before sources_before
+rotation_refused width sources {i} {w} {x} {z} {phase} {angle} {sine} {cosine} e h =
     let t = ne_eqb w width h in
-    (ap (λ (j : Instruction). numberBefore width j) e ∙ cond_no (eqb w width) 0 11 t, ap (λ (j : Instruction). sourcesBefore width sources j) e ∙ cond_no (eqb w width) (cond (eqb width 0) [] (sources x z)) [] t)
+    (ap (λ (j : Instruction). number_before width j) e ∙ cond_no (eqb w width) 0 11 t, ap (λ (j : Instruction). sources_before width sources j) e ∙ cond_no (eqb w width) (cond (eqb width 0) [] (sources x z)) [] t)
 
-pub rotation-empty : (width : ℕ) (sources : ℕ → ℕ → List ℕ) {i : Instruction} {w x z phase : ℕ} {angle sine cosine : Float} → i ≡ Rotation w x z phase angle sine cosine → w ≡ width → width ≡ 0
-    → (numberBefore width i ≡ 0) × (sourcesBefore width sources i ≡ [])
-unfolding numberBefore sourcesBefore
-rotation-empty width sources {i} {w} {x} {z} {phase} {angle} {sine} {cosine} e h n = (
-  ap (λ (j : Instruction). numberBefore width j) e ∙ cond_yes (eqb w width) 0 11 (eq-eqb w width h),
-  ap (λ (j : Instruction). sourcesBefore width sources j) e ∙ cond_yes (eqb w width) (cond (eqb width 0) [] (sources x z)) [] (eq-eqb w width h) ∙ cond_yes (eqb width 0) [] (sources x z) (eq-eqb width 0 n),
+pub rotation_empty : (width : ℕ) (sources : ℕ → ℕ → List ℕ) {i : Instruction} {w x z phase : ℕ} {angle sine cosine : Float} → i ≡ Rotation w x z phase angle sine cosine → w ≡ width → width ≡ 0
+    → (number_before width i ≡ 0) × (sources_before width sources i ≡ [])
+unfolding number_before sources_before
+rotation_empty width sources {i} {w} {x} {z} {phase} {angle} {sine} {cosine} e h n = (
+  ap (λ (j : Instruction). number_before width j) e ∙ cond_yes (eqb w width) 0 11 (eq-eqb w width h),
+  ap (λ (j : Instruction). sources_before width sources j) e ∙ cond_yes (eqb w width) (cond (eqb width 0) [] (sources x z)) [] (eq-eqb w width h) ∙ cond_yes (eqb width 0) [] (sources x z) (eq-eqb width 0 n),
 )
 
-pub rotation-some : (width : ℕ) (sources : ℕ → ℕ → List ℕ) {i : Instruction} {w x z phase : ℕ} {angle sine cosine : Float} → i ≡ Rotation w x z phase angle sine cosine → w ≡ width → (width ≡ 0 → ⊥)
-    → (numberBefore width i ≡ 0) × (sourcesBefore width sources i ≡ sources x z)
-unfolding numberBefore sourcesBefore
-rotation-some width sources {i} {w} {x} {z} {phase} {angle} {sine} {cosine} e h n = (
-  ap (λ (j : Instruction). numberBefore width j) e ∙ cond_yes (eqb w width) 0 11 (eq-eqb w width h),
-  ap (λ (j : Instruction). sourcesBefore width sources j) e ∙ cond_yes (eqb w width) (cond (eqb width 0) [] (sources x z)) [] (eq-eqb w width h) ∙ cond_no (eqb width 0) [] (sources x z) (ne_eqb width 0 n),
+pub rotation_some : (width : ℕ) (sources : ℕ → ℕ → List ℕ) {i : Instruction} {w x z phase : ℕ} {angle sine cosine : Float} → i ≡ Rotation w x z phase angle sine cosine → w ≡ width → (width ≡ 0 → ⊥)
+    → (number_before width i ≡ 0) × (sources_before width sources i ≡ sources x z)
+unfolding number_before sources_before
+rotation_some width sources {i} {w} {x} {z} {phase} {angle} {sine} {cosine} e h n = (
+  ap (λ (j : Instruction). number_before width j) e ∙ cond_yes (eqb w width) 0 11 (eq-eqb w width h),
+  ap (λ (j : Instruction). sources_before width sources j) e ∙ cond_yes (eqb w width) (cond (eqb width 0) [] (sources x z)) [] (eq-eqb w width h) ∙ cond_no (eqb width 0) [] (sources x z) (ne_eqb width 0 n),
 )
 
-pub rotation-asked : (width : ℕ) (asked : ℕ → ℕ → Type 0) {i : Instruction} {w x z phase : ℕ} {angle sine cosine : Float} → i ≡ Rotation w x z phase angle sine cosine → WhereJoined width asked i → w ≡ width → (width ≡ 0 → ⊥) → asked x z
-rotation-asked width asked {i} {w} {x} {z} {phase} {angle} {sine} {cosine} e pre h n = subst (λ (j : Instruction). WhereJoined width asked j) e pre h (omega (arith, n))
+pub rotation_asked : (width : ℕ) (asked : ℕ → ℕ → Type 0) {i : Instruction} {w x z phase : ℕ} {angle sine cosine : Float} → i ≡ Rotation w x z phase angle sine cosine → WhereJoined width asked i → w ≡ width → (width ≡ 0 → ⊥) → asked x z
+rotation_asked width asked {i} {w} {x} {z} {phase} {angle} {sine} {cosine} e pre h n = subst (λ (j : Instruction). WhereJoined width asked j) e pre h (omega (arith, n))
 
 -- ---- a measurement
 
-pub measurement-refused : (width : ℕ) (sources : ℕ → ℕ → List ℕ) {i : Instruction} {w x z phase pivot : ℕ} → i ≡ Measurement w x z phase pivot → (w ≡ width → ⊥)
-    → (numberBefore width i ≡ 12) × (sourcesBefore width sources i ≡ [])
-unfolding numberBefore sourcesBefore
-measurement-refused width sources {i} {w} {x} {z} {phase} {pivot} e h =
+pub measurement_refused : (width : ℕ) (sources : ℕ → ℕ → List ℕ) {i : Instruction} {w x z phase pivot : ℕ} → i ≡ Measurement w x z phase pivot → (w ≡ width → ⊥)
+    → (number_before width i ≡ 12) × (sources_before width sources i ≡ [])
+unfolding number_before sources_before
+measurement_refused width sources {i} {w} {x} {z} {phase} {pivot} e h =
     let t = ne_eqb w width h in
-    (ap (λ (j : Instruction). numberBefore width j) e ∙ cond_no (eqb w width) (cond (eqb width 0) 13 0) 12 t, ap (λ (j : Instruction). sourcesBefore width sources j) e ∙ cond_no (eqb w width) (cond (eqb width 0) [] (sources x z)) [] t)
+    (ap (λ (j : Instruction). number_before width j) e ∙ cond_no (eqb w width) (cond (eqb width 0) 13 0) 12 t, ap (λ (j : Instruction). sources_before width sources j) e ∙ cond_no (eqb w width) (cond (eqb width 0) [] (sources x z)) [] t)
 
-pub measurement-empty : (width : ℕ) (sources : ℕ → ℕ → List ℕ) {i : Instruction} {w x z phase pivot : ℕ} → i ≡ Measurement w x z phase pivot → w ≡ width → width ≡ 0
-    → (numberBefore width i ≡ 13) × (sourcesBefore width sources i ≡ [])
-unfolding numberBefore sourcesBefore
-measurement-empty width sources {i} {w} {x} {z} {phase} {pivot} e h n = (
-  ap (λ (j : Instruction). numberBefore width j) e ∙ cond_yes (eqb w width) (cond (eqb width 0) 13 0) 12 (eq-eqb w width h) ∙ cond_yes (eqb width 0) 13 0 (eq-eqb width 0 n),
-  ap (λ (j : Instruction). sourcesBefore width sources j) e ∙ cond_yes (eqb w width) (cond (eqb width 0) [] (sources x z)) [] (eq-eqb w width h) ∙ cond_yes (eqb width 0) [] (sources x z) (eq-eqb width 0 n),
+pub measurement_empty : (width : ℕ) (sources : ℕ → ℕ → List ℕ) {i : Instruction} {w x z phase pivot : ℕ} → i ≡ Measurement w x z phase pivot → w ≡ width → width ≡ 0
+    → (number_before width i ≡ 13) × (sources_before width sources i ≡ [])
+unfolding number_before sources_before
+measurement_empty width sources {i} {w} {x} {z} {phase} {pivot} e h n = (
+  ap (λ (j : Instruction). number_before width j) e ∙ cond_yes (eqb w width) (cond (eqb width 0) 13 0) 12 (eq-eqb w width h) ∙ cond_yes (eqb width 0) 13 0 (eq-eqb width 0 n),
+  ap (λ (j : Instruction). sources_before width sources j) e ∙ cond_yes (eqb w width) (cond (eqb width 0) [] (sources x z)) [] (eq-eqb w width h) ∙ cond_yes (eqb width 0) [] (sources x z) (eq-eqb width 0 n),
 )
 
-pub measurement-some : (width : ℕ) (sources : ℕ → ℕ → List ℕ) {i : Instruction} {w x z phase pivot : ℕ} → i ≡ Measurement w x z phase pivot → w ≡ width → (width ≡ 0 → ⊥)
-    → (numberBefore width i ≡ 0) × (sourcesBefore width sources i ≡ sources x z)
-unfolding numberBefore sourcesBefore
-measurement-some width sources {i} {w} {x} {z} {phase} {pivot} e h n = (
-  ap (λ (j : Instruction). numberBefore width j) e ∙ cond_yes (eqb w width) (cond (eqb width 0) 13 0) 12 (eq-eqb w width h) ∙ cond_no (eqb width 0) 13 0 (ne_eqb width 0 n),
-  ap (λ (j : Instruction). sourcesBefore width sources j) e ∙ cond_yes (eqb w width) (cond (eqb width 0) [] (sources x z)) [] (eq-eqb w width h) ∙ cond_no (eqb width 0) [] (sources x z) (ne_eqb width 0 n),
+pub measurement_some : (width : ℕ) (sources : ℕ → ℕ → List ℕ) {i : Instruction} {w x z phase pivot : ℕ} → i ≡ Measurement w x z phase pivot → w ≡ width → (width ≡ 0 → ⊥)
+    → (number_before width i ≡ 0) × (sources_before width sources i ≡ sources x z)
+unfolding number_before sources_before
+measurement_some width sources {i} {w} {x} {z} {phase} {pivot} e h n = (
+  ap (λ (j : Instruction). number_before width j) e ∙ cond_yes (eqb w width) (cond (eqb width 0) 13 0) 12 (eq-eqb w width h) ∙ cond_no (eqb width 0) 13 0 (ne_eqb width 0 n),
+  ap (λ (j : Instruction). sources_before width sources j) e ∙ cond_yes (eqb w width) (cond (eqb width 0) [] (sources x z)) [] (eq-eqb w width h) ∙ cond_no (eqb width 0) [] (sources x z) (ne_eqb width 0 n),
 )
 
-pub measurement-asked : (width : ℕ) (asked : ℕ → ℕ → Type 0) {i : Instruction} {w x z phase pivot : ℕ} → i ≡ Measurement w x z phase pivot → WhereJoined width asked i → w ≡ width → (width ≡ 0 → ⊥) → asked x z
-measurement-asked width asked {i} {w} {x} {z} {phase} {pivot} e pre h n = subst (λ (j : Instruction). WhereJoined width asked j) e pre h (omega (arith, n))
+pub measurement_asked : (width : ℕ) (asked : ℕ → ℕ → Type 0) {i : Instruction} {w x z phase pivot : ℕ} → i ≡ Measurement w x z phase pivot → WhereJoined width asked i → w ≡ width → (width ≡ 0 → ⊥) → asked x z
+measurement_asked width asked {i} {w} {x} {z} {phase} {pivot} e pre h n = subst (λ (j : Instruction). WhereJoined width asked j) e pre h (omega (arith, n))
 
 -- ---- what was opened
 
 module _ (width offset : ℕ) (component size merges : List ℕ) (i : Instruction) where
-  pub opened-none : (n : ℕ) (r : Opening) → r ≡ record { number = n; join = noJoining }
-      → (numberBefore width i ≡ n) × (sourcesBefore width (sourcesAt component size width) i ≡ [])
-      → (r.number ≡ numberBefore width i)
-      × (r.join ≡ joinBefore size (sourcesBefore width (sourcesAt component size width) i))
-      × (merges ≡ patch offset (sourcesBefore width (sourcesAt component size width) i) merges)
-  opened-none n r e s = (
+  pub opened_none : (n : ℕ) (r : Opening) → r ≡ record { number = n; join = no_joining }
+      → (number_before width i ≡ n) × (sources_before width (sources_at component size width) i ≡ [])
+      → (r.number ≡ number_before width i)
+      × (r.join ≡ join_before size (sources_before width (sources_at component size width) i))
+      × (merges ≡ patch offset (sources_before width (sources_at component size width) i) merges)
+  opened_none n r e s = (
     ap (λ (q : Opening). q.number) e ∙ sym s.0,
-    ap (λ (q : Opening). q.join) e ∙ ap (λ (ws : List ℕ). joinBefore size ws) (sym s.1),
-    sym (ap (λ (ws : List ℕ). patch offset ws merges) s.1 ∙ patch-none offset merges),
+    ap (λ (q : Opening). q.join) e ∙ ap (λ (ws : List ℕ). join_before size ws) (sym s.1),
+    sym (ap (λ (ws : List ℕ). patch offset ws merges) s.1 ∙ patch_none offset merges),
   )
 
   pub opened_some : (x z : ℕ) (j : Joining) (after : List ℕ)
-      → (j ≡ joiningOf size (sourcesAt component size width x z)) × (after ≡ patch offset (sourcesAt component size width x z) merges)
-      → (numberBefore width i ≡ 0) × (sourcesBefore width (sourcesAt component size width) i ≡ sourcesAt component size width x z)
-      → (◌≡◌ {A = ℕ} 0 (numberBefore width i))
-      × (j ≡ joinBefore size (sourcesBefore width (sourcesAt component size width) i))
-      × (after ≡ patch offset (sourcesBefore width (sourcesAt component size width) i) merges)
-  unfolding sourcesIn
+      → (j ≡ joining_of size (sources_at component size width x z)) × (after ≡ patch offset (sources_at component size width x z) merges)
+      → (number_before width i ≡ 0) × (sources_before width (sources_at component size width) i ≡ sources_at component size width x z)
+      → (◌≡◌ {A = ℕ} 0 (number_before width i))
+      × (j ≡ join_before size (sources_before width (sources_at component size width) i))
+      × (after ≡ patch offset (sources_before width (sources_at component size width) i) merges)
+  unfolding sources_in
   opened_some x z j after g s = (
     sym s.0,
-    g.0 ∙ ap (λ (ws : List ℕ). joinBefore size ws) (sym s.1),
+    g.0 ∙ ap (λ (ws : List ℕ). join_before size ws) (sym s.1),
     g.1 ∙ ap (λ (ws : List ℕ). patch offset ws merges) (sym s.1),
   )

@@ -8,13 +8,13 @@ use lib.ListN.{length, take, drop, length-append, length-take, length-drop, take
 use lib.Seq.{take_at, drop_at, length-take-le}
 use Rattle.outputs.specs.Buffers.{patch}
 
-pub part-of-patch : (at n : ℕ) (ws xs : List ℕ) → length ws ≡ n → at ≤ length xs → take n (drop at (patch at ws xs)) ≡ ws
-part-of-patch at n ws xs l h =
+pub part_of_patch : (at n : ℕ) (ws xs : List ℕ) → length ws ≡ n → at ≤ length xs → take n (drop at (patch at ws xs)) ≡ ws
+part_of_patch at n ws xs l h =
     ap (λ (r : List ℕ). take n r) (drop_at (take at xs) (ws ++ drop (at + length ws) xs) at (length-take-le at xs h))
     ∙ take_at ws (drop (at + length ws) xs) n l
 
-pub patch-none : (at : ℕ) (xs : List ℕ) → patch at [] xs ≡ xs
-patch-none at xs = ap (λ (k : ℕ). take at xs ++ drop k xs) (add-zero at) ∙ take-append-drop at xs
+pub patch_none : (at : ℕ) (xs : List ℕ) → patch at [] xs ≡ xs
+patch_none at xs = ap (λ (k : ℕ). take at xs ++ drop k xs) (add-zero at) ∙ take-append-drop at xs
 
-pub patch-length : (at : ℕ) (ws xs : List ℕ) → at + length ws ≤ length xs → length (patch at ws xs) ≡ length xs
-patch-length at ws xs h = simp (length-append, length-take, length-drop) (omega arith)
+pub patch_length : (at : ℕ) (ws xs : List ℕ) → at + length ws ≤ length xs → length (patch at ws xs) ≡ length xs
+patch_length at ws xs h = simp (length-append, length-take, length-drop) (omega arith)

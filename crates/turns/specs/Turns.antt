@@ -8,9 +8,9 @@ use Rattle.kernels.specs.declared.active.PrecomputedActivePauliRotationKernel.{P
 use Rattle.kernels.specs.declared.active.PrecomputedActivePauliMeasurementKernel.{PrecomputedActivePauliMeasurementKernel}
 use Rattle.records.specs.declared.Instruction.{Instruction}
 use Rattle.records.specs.declared.Instruction.TheVariants.{Rotation, Promotion, RecordMeasurement, RecordDetector, Measurement, Expectation, DormantBranch}
-use Rattle.definition.specs.Walk.{rotationRow, measurementRow}
-use Rattle.positions.specs.Positions.{picked, reachedMask, Below512, sourcesIn, localOf}
-use Rattle.tally.specs.Tally.{joiningOf, Countable, JoinFits, rotatedTally, measuredTally, promotedTally}
+use Rattle.definition.specs.Walk.{rotation_row, measurement_row}
+use Rattle.positions.specs.Positions.{picked, reached_mask, Below512, sources_in, local_of}
+use Rattle.tally.specs.Tally.{joining_of, Countable, JoinFits, rotated_tally, measured_tally, promoted_tally}
 use Rattle.tally.specs.declared.Joining.{Joining}
 use Rattle.tally.specs.declared.Tally.{Tally}
 use Rattle.outputs.specs.Buffers.{patch}
@@ -18,35 +18,35 @@ use Rattle.outputs.specs.Buffers.{patch}
 -- ---- before the join
 
 -- the sources of a join by the masks, at a width
-abbrev pub sourcesAt : List ℕ → List ℕ → ℕ → ℕ → ℕ → List ℕ
-sourcesAt component size width x z = sourcesIn size (picked (reachedMask (x % 2 ^ width) (z % 2 ^ width)) component)
+abbrev pub sources_at : List ℕ → List ℕ → ℕ → ℕ → ℕ → List ℕ
+sources_at component size width x z = sources_in size (picked (reached_mask (x % 2 ^ width) (z % 2 ^ width)) component)
 
 -- what the code asks so that the sources can be written and their join counted
 pub record GatherFits (component size : List ℕ) (width offset room x z : ℕ) : Type 0 where
   pub narrow : width < 64
   pub numbers : Below512 component
-  pub written : offset + length (sourcesAt component size width x z) ≤ room
-  pub counted : Countable size (sourcesAt component size width x z)
+  pub written : offset + length (sources_at component size width x z) ≤ room
+  pub counted : Countable size (sources_at component size width x z)
 
 -- "11: width not k"; "12: width not k. 13: k = 0". A number 0 says that there is no refusal
-unfoldable pub numberBefore : ℕ → Instruction → ℕ
-numberBefore width (Rotation w x z phase angle sine cosine) = cond (eqb w width) 0 11
-numberBefore width (Measurement w x z phase pivot) = cond (eqb w width) (cond (eqb width 0) 13 0) 12
-numberBefore width Promotion = 0
-numberBefore width RecordMeasurement = 0
-numberBefore width RecordDetector = 0
-numberBefore width Expectation = 0
-numberBefore width DormantBranch = 0
+unfoldable pub number_before : ℕ → Instruction → ℕ
+number_before width (Rotation w x z phase angle sine cosine) = cond (eqb w width) 0 11
+number_before width (Measurement w x z phase pivot) = cond (eqb w width) (cond (eqb width 0) 13 0) 12
+number_before width Promotion = 0
+number_before width RecordMeasurement = 0
+number_before width RecordDetector = 0
+number_before width Expectation = 0
+number_before width DormantBranch = 0
 
 -- the sources of the join that a record makes: none where it is refused, where no coordinate is active, and for the kinds that join nothing
-unfoldable pub sourcesBefore : ℕ → (ℕ → ℕ → List ℕ) → Instruction → List ℕ
-sourcesBefore width sources (Rotation w x z phase angle sine cosine) = cond (eqb w width) (cond (eqb width 0) [] (sources x z)) []
-sourcesBefore width sources (Measurement w x z phase pivot) = cond (eqb w width) (cond (eqb width 0) [] (sources x z)) []
-sourcesBefore width sources Promotion = []
-sourcesBefore width sources RecordMeasurement = []
-sourcesBefore width sources RecordDetector = []
-sourcesBefore width sources Expectation = []
-sourcesBefore width sources DormantBranch = []
+unfoldable pub sources_before : ℕ → (ℕ → ℕ → List ℕ) → Instruction → List ℕ
+sources_before width sources (Rotation w x z phase angle sine cosine) = cond (eqb w width) (cond (eqb width 0) [] (sources x z)) []
+sources_before width sources (Measurement w x z phase pivot) = cond (eqb w width) (cond (eqb width 0) [] (sources x z)) []
+sources_before width sources Promotion = []
+sources_before width sources RecordMeasurement = []
+sources_before width sources RecordDetector = []
+sources_before width sources Expectation = []
+sources_before width sources DormantBranch = []
 
 -- what is asked where a record makes a join
 abbrev pub WhereJoined : ℕ → (ℕ → ℕ → Type 0) → Instruction → Type 0
@@ -59,29 +59,29 @@ WhereJoined width asked Expectation = Unit
 WhereJoined width asked DormantBranch = Unit
 
 -- a join of no sources
-abbrev pub noJoining : Joining
-noJoining = record { count = 0; target = 0; size = 0; cost = fin false 0 (pos 0); whole_cost = 0; freed = 0 }
+abbrev pub no_joining : Joining
+no_joining = record { count = 0; target = 0; size = 0; cost = fin false 0 (pos 0); whole_cost = 0; freed = 0 }
 
-abbrev pub joinBefore : List ℕ → List ℕ → Joining
-joinBefore size [] = noJoining
-joinBefore size (t ∷ others) = joiningOf size (t ∷ others)
+abbrev pub join_before : List ℕ → List ℕ → Joining
+join_before size [] = no_joining
+join_before size (t ∷ others) = joining_of size (t ∷ others)
 
 -- ---- after it
 
 -- "Local bit j is the global bit at the position of the component's j-th member"
-abbrev pub localActionOf : List ℕ → ℕ → ℕ → ℕ → ℕ → ℕ → ActivePauliAction
-localActionOf place x z phase width size = action size (localOf (x % 2 ^ width) place) (localOf (z % 2 ^ width) place) phase
+abbrev pub local_action_of : List ℕ → ℕ → ℕ → ℕ → ℕ → ℕ → ActivePauliAction
+local_action_of place x z phase width size = action size (local_of (x % 2 ^ width) place) (local_of (z % 2 ^ width) place) phase
 
 -- an answer of 01 as a number and what was done: a refusal's number, or 0 and what holds then
 pub record Settled {K : Type 0} (answer : Answer K) (number : ℕ) (done : K → Type 0) : Type 0 where
-  pub refused-is : (n : ℕ) → answer ≡ refused n → number ≡ n
+  pub refused_is : (n : ℕ) → answer ≡ refused n → number ≡ n
   pub given_is : (k : K) → answer ≡ given k → (number ≡ 0) × done k
 
 -- what both kinds ask: masks that fit a word, sums that the join fits, and room for the step and the longest size
 pub record JoinedFits (place : List ℕ) (x z width index : ℕ) (join : Joining) (tally : Tally) (steps sizes : List ℕ) : Type 0 where
   pub narrow : width < 64
-  pub x_fits : localOf (x % 2 ^ width) place < 2 ^ 64
-  pub z-fits : localOf (z % 2 ^ width) place < 2 ^ 64
+  pub x_fits : local_of (x % 2 ^ width) place < 2 ^ 64
+  pub z_fits : local_of (z % 2 ^ width) place < 2 ^ 64
   pub sums : JoinFits tally join
   pub step_room : 2 * index + 2 ≤ length steps
   pub size_room : join.target < length sizes
@@ -91,29 +91,29 @@ abbrev pub raised : List ℕ → Joining → List ℕ
 raised sizes join = set sizes join.target (max (get_or sizes join.target 0) join.size)
 
 -- the kernel of a rotation, or 14
-abbrev pub rotationAnswer : ℕ → List ℕ → ℕ → ℕ → ℕ → Float → Float → Float → ℕ → ℕ → Answer PrecomputedActivePauliRotationKernel
-rotationAnswer limit place x z phase angle sine cosine width size = rotation limit (localActionOf place x z phase width size) phase angle sine cosine
+abbrev pub rotation_answer : ℕ → List ℕ → ℕ → ℕ → ℕ → Float → Float → Float → ℕ → ℕ → Answer PrecomputedActivePauliRotationKernel
+rotation_answer limit place x z phase angle sine cosine width size = rotation limit (local_action_of place x z phase width size) phase angle sine cosine
 
 pub record RotationDone (width index : ℕ) (join : Joining) (tally next : Tally) (steps sizes rotations steps' sizes' rotations' : List ℕ) (k : PrecomputedActivePauliRotationKernel) : Type 0 where
-  pub sums : next ≡ rotatedTally tally join width
+  pub sums : next ≡ rotated_tally tally join width
   pub step : steps' ≡ patch (2 * index) (2 ∷ tally.rotations ∷ []) steps
   pub size : sizes' ≡ raised sizes join
-  pub row : rotations' ≡ patch (21 * tally.rotations) (rotationRow join.target tally.merges join.count k) rotations
+  pub row : rotations' ≡ patch (21 * tally.rotations) (rotation_row join.target tally.merges join.count k) rotations
 
 -- 14: 02, CR 4, "a component whose size is the ceiling or more", which is the limit here. "15: pivot >= k. 16: its coordinate is outside the target", and else the kernel, or 17 to 20
-abbrev pub measurementAnswer : ℕ → List ℕ → List ℕ → ℕ → ℕ → ℕ → ℕ → ℕ → Joining → Answer PrecomputedActivePauliMeasurementKernel
-measurementAnswer limit component place x z phase pivot width join =
+abbrev pub measurement_answer : ℕ → List ℕ → List ℕ → ℕ → ℕ → ℕ → ℕ → ℕ → Joining → Answer PrecomputedActivePauliMeasurementKernel
+measurement_answer limit component place x z phase pivot width join =
     cond (leb limit join.size) (refused 14)
     (cond (leb width pivot) (refused 15)
     (cond (eqb (get_or component pivot 0) join.target)
-    (measurement limit (localActionOf place x z phase width join.size) phase (get_or place pivot 0))
+    (measurement limit (local_action_of place x z phase width join.size) phase (get_or place pivot 0))
     (refused 16)))
 
 pub record MeasurementDone (width index : ℕ) (join : Joining) (tally next : Tally) (steps sizes measurements steps' sizes' measurements' : List ℕ) (k : PrecomputedActivePauliMeasurementKernel) : Type 0 where
-  pub sums : next ≡ measuredTally tally join width
+  pub sums : next ≡ measured_tally tally join width
   pub step : steps' ≡ patch (2 * index) (4 ∷ tally.measurements ∷ []) steps
   pub size : sizes' ≡ raised sizes join
-  pub row : measurements' ≡ patch (19 * tally.measurements) (measurementRow join.target tally.merges join.count k (eqb join.size 1)) measurements
+  pub row : measurements' ≡ patch (19 * tally.measurements) (measurement_row join.target tally.merges join.count k (eqb join.size 1)) measurements
 
 -- what a promotion asks
 pub record PromotionFits (next width index : ℕ) (tally : Tally) (steps sizes promotions : List ℕ) : Type 0 where
@@ -126,7 +126,7 @@ pub record PromotionFits (next width index : ℕ) (tally : Tally) (steps sizes p
 
 -- "Promotion rows, one word, the component"
 pub record PromotionDone (next width index : ℕ) (tally after : Tally) (steps sizes promotions steps' sizes' promotions' : List ℕ) : Type 0 where
-  pub sums : after ≡ promotedTally tally width
+  pub sums : after ≡ promoted_tally tally width
   pub step : steps' ≡ patch (2 * index) (3 ∷ tally.promotions ∷ []) steps
   pub size : sizes' ≡ set sizes next 1
   pub row : promotions' ≡ set promotions tally.promotions next

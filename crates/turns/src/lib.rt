@@ -1,9 +1,9 @@
 // What a record does besides changing the state: the sources of its join before, its row, its step and its sums after.
 ghost use Rattle.std.specs.Prelude.{◌≡◌, ◌+◌, ◌*◌, ◌%◌, ◌^◌, ◌<◌, ◌≤◌, cond, eqb, leb, length, get_or};
 ghost use Rattle.outputs.specs.Buffers.{patch};
-ghost use Rattle.positions.specs.Positions.{localOf};
-ghost use Rattle.tally.specs.Tally.{joiningOf};
-ghost use Rattle.turns.specs.Turns.{sourcesAt, GatherFits, numberBefore, sourcesBefore, WhereJoined, noJoining, joinBefore, localActionOf, Settled, JoinedFits, rotationAnswer, RotationDone, measurementAnswer, MeasurementDone, PromotionFits, PromotionDone};
+ghost use Rattle.positions.specs.Positions.{local_of};
+ghost use Rattle.tally.specs.Tally.{joining_of};
+ghost use Rattle.turns.specs.Turns.{sources_at, GatherFits, number_before, sources_before, WhereJoined, no_joining, join_before, local_action_of, Settled, JoinedFits, rotation_answer, RotationDone, measurement_answer, MeasurementDone, PromotionFits, PromotionDone};
 
 use kernels::active::{
     ActivePauliAction, MeasurementKernel, PrecomputedActivePauliMeasurementKernel,
@@ -31,7 +31,7 @@ pub struct Closing {
 
 // A refusal, or no join.
 fn without_join(number: u64) -> Opening
-    ensures { result ≡ record { number = number; join = noJoining } }
+    ensures { result ≡ record { number = number; join = no_joining } }
 {
     Opening {
         number,
@@ -57,8 +57,8 @@ fn gather<'a>(
     merges: &mut [u64],
 ) -> Joining
     requires { GatherFits component.now size.now width offset (length merges.old) x z }
-    ensures { (result ≡ joiningOf size.now (sourcesAt component.now size.now width x z))
-        × (merges.new ≡ patch offset (sourcesAt component.now size.now width x z) merges.old) }
+    ensures { (result ≡ joining_of size.now (sources_at component.now size.now width x z))
+        × (merges.new ≡ patch offset (sources_at component.now size.now width x z) merges.old) }
 {
     let mask = reached_positions(below_width(x, width), below_width(z, width));
     let count = write_sources(component, size, mask, &mut merges[offset..]);
@@ -76,9 +76,9 @@ pub fn open<'a>(
     merges: &mut [u64],
 ) -> Opening
     requires { WhereJoined width (λ x z. GatherFits component.now size.now width offset (length merges.old) x z) instruction }
-    ensures { (result.number ≡ numberBefore width instruction)
-        × (result.join ≡ joinBefore size.now (sourcesBefore width (sourcesAt component.now size.now width) instruction))
-        × (merges.new ≡ patch offset (sourcesBefore width (sourcesAt component.now size.now width) instruction) merges.old) }
+    ensures { (result.number ≡ number_before width instruction)
+        × (result.join ≡ join_before size.now (sources_before width (sources_at component.now size.now width) instruction))
+        × (merges.new ≡ patch offset (sources_before width (sources_at component.now size.now width) instruction) merges.old) }
 {
     match instruction {
         Instruction::Rotation {
@@ -129,9 +129,9 @@ fn local_action(
     size: u64,
 ) -> ActivePauliAction
     requires fact_1 { width < 64 }
-    requires fact_2 { localOf (x % 2 ^ width) place.now < 2 ^ 64 }
-    requires fact_3 { localOf (z % 2 ^ width) place.now < 2 ^ 64 }
-    ensures { result ≡ localActionOf place.now x z phase width size }
+    requires fact_2 { local_of (x % 2 ^ width) place.now < 2 ^ 64 }
+    requires fact_3 { local_of (z % 2 ^ width) place.now < 2 ^ 64 }
+    ensures { result ≡ local_action_of place.now x z phase width size }
 {
     let local_x = local_mask(place, below_width(x, width));
     let local_z = local_mask(place, below_width(z, width));
@@ -169,7 +169,7 @@ pub fn rotate(
 ) -> Closing
     requires fact_1 { JoinedFits place.now x z width index join tally steps.old sizes.old }
     requires fact_2 { 21 * tally.rotations + 21 ≤ length rotations.old }
-    ensures { Settled (rotationAnswer limit place.now x z phase angle sine cosine width join.size) result.number
+    ensures { Settled (rotation_answer limit place.now x z phase angle sine cosine width join.size) result.number
         (RotationDone width index join tally result.tally steps.old sizes.old rotations.old steps.new sizes.new rotations.new) }
 {
     let action = local_action(place, x, z, phase, width, join.size);
@@ -241,7 +241,7 @@ pub fn measure<'a>(
 ) -> Closing
     requires fact_1 { JoinedFits place.now x z width index join tally steps.old sizes.old }
     requires fact_2 { 19 * tally.measurements + 19 ≤ length measurements.old }
-    ensures { Settled (measurementAnswer limit component.now place.now x z phase pivot width join) result.number
+    ensures { Settled (measurement_answer limit component.now place.now x z phase pivot width join) result.number
         (MeasurementDone width index join tally result.tally steps.old sizes.old measurements.old steps.new sizes.new measurements.new) }
 {
     let number = pivot_number(component, pivot, join, width, limit);

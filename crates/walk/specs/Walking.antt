@@ -1,11 +1,11 @@
 -- What the contract of `walk` says: it stops where the definition's walk stops, or leaves in front of each buffer what the definition's walk has written.
 use Rattle.std.specs.Prelude.{ℕ, ◌/◌, ◌%◌, ◌^◌, ◌≤◌, ◌≡◌, List, false, length, take}
-use Rattle.records.specs.Pass.{recordPass}
+use Rattle.records.specs.Pass.{record_pass}
 use Rattle.records.specs.declared.Checked.TheVariants.{Passed}
 use Rattle.definition.specs.Lists.{concat}
-use Rattle.definition.specs.Components.{liveDimension}
+use Rattle.definition.specs.Components.{live_dimension}
 use Rattle.definition.specs.Walk.{Walk, Walked, finished, stopped}
-use Rattle.definition.specs.Plan.{Lengths, groups_of, wordsRefused, buffersRefused}
+use Rattle.definition.specs.Plan.{Lengths, groups_of, words_refused, buffers_refused}
 use Rattle.tally.specs.declared.Tally.{Tally}
 use Rattle.walk.specs.declared.Summary.{Summary}
 use Rattle.walk.specs.declared.Walked as Declared
@@ -21,8 +21,8 @@ pub record Buffers : Type 0 where
   pub measurements : List ℕ
   pub groups : List ℕ
 
-abbrev pub lengthsOf : Buffers → Lengths
-lengthsOf b = record {
+abbrev pub lengths_of : Buffers → Lengths
+lengths_of b = record {
   steps = length b.steps;
   merges = length b.merges;
   sizes = length b.sizes;
@@ -48,12 +48,12 @@ Begins words buffer = take (length words) buffer ≡ words
 
 -- the sums and counts are those of the walk's state; the whole works modulo 2 ^ 64
 pub record Tallied (t : Tally) (w : Walk) : Type 0 where
-  pub dense : t.dense ≡ w.denseWork
-  pub work : t.work ≡ w.componentWork
-  pub whole-dense : t.whole_dense ≡ w.whole.dense % 2 ^ 64
-  pub whole-work : t.whole_work ≡ w.whole.component % 2 ^ 64
+  pub dense : t.dense ≡ w.dense_work
+  pub work : t.work ≡ w.component_work
+  pub whole_dense : t.whole_dense ≡ w.whole.dense % 2 ^ 64
+  pub whole_work : t.whole_work ≡ w.whole.component % 2 ^ 64
   pub widest : t.widest ≡ w.whole.widest
-  pub live : t.live ≡ liveDimension w.components
+  pub live : t.live ≡ live_dimension w.components
   pub peak : t.peak ≡ w.peak
   pub merges : t.merges ≡ length w.written.merges
   pub rotations : t.rotations ≡ length w.written.rotations
@@ -83,7 +83,7 @@ WalkEnds (stopped n i) (W.Stopped number index) b = (n ≡ number) × (i ≡ ind
 
 -- what refusals 2 to 10 leave to the walk
 pub record Walkable (initial : ℕ) (ws : List ℕ) (b : Buffers) : Type 0 where
-  pub initial-small : initial ≤ 512
-  pub whole : wordsRefused ws ≡ false
-  pub room : buffersRefused (length ws / 8) (lengthsOf b) ≡ false
-  pub passed : recordPass initial ws ≡ Passed
+  pub initial_small : initial ≤ 512
+  pub whole : words_refused ws ≡ false
+  pub room : buffers_refused (length ws / 8) (lengths_of b) ≡ false
+  pub passed : record_pass initial ws ≡ Passed

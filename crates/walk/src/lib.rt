@@ -1,7 +1,7 @@
 // The walk over the records. The state is a local of the walk's loop, and is moved by nothing but its own steps; the active
 // order stands beside it and is changed in place.
-ghost use Rattle.records.specs.Record.{instructionsOf};
-ghost use Rattle.definition.specs.Walk.{start, walkFrom};
+ghost use Rattle.records.specs.Record.{instructions_of};
+ghost use Rattle.definition.specs.Walk.{start, walk_from};
 ghost use Rattle.walk.specs.Walking.{Walkable, WalkEnds};
 
 use outputs::buffers::{fill_ones, write_counts, write_members};
@@ -40,7 +40,7 @@ pub fn walk(
     groups: &mut [u64],
 ) -> Walked
     requires { Walkable initial_k records.now (record { steps = steps.now; merges = merges.old; sizes = sizes.old; rotations = rotations.old; promotions = promotions.old; measurements = measurements.old; groups = groups.old }) }
-    ensures { WalkEnds (walkFrom limit 0 (start initial_k) (instructionsOf records.now)) result (record { steps = steps.exit.now; merges = merges.new; sizes = sizes.new; rotations = rotations.new; promotions = promotions.new; measurements = measurements.new; groups = groups.new }) }
+    ensures { WalkEnds (walk_from limit 0 (start initial_k) (instructions_of records.now)) result (record { steps = steps.exit.now; merges = merges.new; sizes = sizes.new; rotations = rotations.new; promotions = promotions.new; measurements = measurements.new; groups = groups.new }) }
 {
     let mut order = first_order(initial_k);
     let mut state = State::start(initial_k);

@@ -7,10 +7,10 @@ use mathlib.Core.Logic.{⊎_elim}
 use mathlib.Core.List.{List}
 use Prim.Native.Nat.{ℕ}
 use Rattle.kernels.specs.Active.{given}
-use Rattle.definition.specs.Plan.{planned, refusedAt, unread, unreadPlan, plan_of, planRead}
-use Rattle.walk.specs.Walking.{Buffers, lengthsOf, SameLengths}
-use Rattle.lent.specs.Lent.{headAnswer, densePeakOf}
-use Rattle.component_plan.proofs.Refusals.{answers, zeros-held, unread-held, unread-same, unread-small, unread-expected, unread-neither, plan-headless, plan-unread, plan-is-read, refused-answers, planned-answers}
+use Rattle.definition.specs.Plan.{planned, refused_at, unread, unread_plan, plan_of, plan_read}
+use Rattle.walk.specs.Walking.{Buffers, lengths_of, SameLengths}
+use Rattle.lent.specs.Lent.{head_answer, dense_peak_of}
+use Rattle.component_plan.proofs.Refusals.{answers, zeros_held, unread_held, unread_same, unread_small, unread_expected, unread_neither, plan_headless, plan_unread, plan_is_read, refused_answers, planned_answers}
 use Rattle.component_plan.proofs.build_active_component_plan.Statement.{statement}
 use Rattle.component_plan.proofs.build_active_component_plan.Tie as tie
 
@@ -90,20 +90,20 @@ same_read c = record {
 }
 
 -- the dense peak that the head has
-peak-given : (c : tie.After-peak2) → given c.peak2.given.0.0 ≡ headAnswer c.before.before.before.before.before.before.before.before.before.before.before.args.head
-peak-given c = ap densePeakOf (sym c.peak2.given.1) ∙ c.before.before.dense-peak.ensures
+peak_given : (c : tie.After-peak2) → given c.peak2.given.0.0 ≡ head_answer c.before.before.before.before.before.before.before.before.before.before.before.args.head
+peak_given c = ap dense_peak_of (sym c.peak2.given.1) ∙ c.before.before.dense_peak_is.ensures
 
-head-unread : (c : tie.Joined1) → unread c.before.before.before.before.before.before.before.before.before.before.before.before.before.args.head ≡ true
-head-unread c =
+head_unread : (c : tie.Joined1) → unread c.before.before.before.before.before.before.before.before.before.before.before.before.before.args.head ≡ true
+head_unread c =
     let h = c.before.before.before.before.before.before.before.before.before.before.before.before.before.args.head in
-    ⊎_elim (λ w. unread-small h w.taken) (λ w. unread-expected h w.1.taken) c.if1.branch
+    ⊎_elim (λ w. unread_small h w.taken) (λ w. unread_expected h w.1.taken) c.if1.branch
 
 -- where the records are read
 is_read : (c : tie.Else2) → let s = c.before.before.before.before.before.before.before.before.before.before.before.before.before.before in
-    plan_of s.args.head (words_of s) (lengthsOf (before_of s)) ≡ planRead s.args.head (words_of s) (lengthsOf (before_of s)) c.before.before.before.peak2.given.0.0
+    plan_of s.args.head (words_of s) (lengths_of (before_of s)) ≡ plan_read s.args.head (words_of s) (lengths_of (before_of s)) c.before.before.before.peak2.given.0.0
 is_read c =
     let s = c.before.before.before.before.before.before.before.before.before.before.before.before.before.before in
-    plan-is-read s.args.head (words_of s) (lengthsOf (before_of s)) _ (peak-given c.before.before.before) (unread-neither s.args.head c.before.if1.false c.if2.false)
+    plan_is_read s.args.head (words_of s) (lengths_of (before_of s)) _ (peak_given c.before.before.before) (unread_neither s.args.head c.before.if1.false c.if2.false)
 
 dense-peak-requires : tie.Need-dense-peak-requires
 dense-peak-requires c κs = search rules
@@ -150,10 +150,10 @@ returns c =
     let s = c.before.before.before.before.before.before.before.before.before.before.before.before.before.before.before.before.before.before.before.before.before.before.before.before.before.before.before.before.before.before.before.before.before.before.before.before in
     let h = s.args.head in
     let peak = c.before.before.before.before.before.before.before.before.before.before.before.before.before.before.before.before.before.before.before.before.before.before.before.before.before.peak2.given.0.0 in
-    answers h (words_of s) (before_of s) (cleared2-of cleared) (planned (unreadPlan h.initial_k peak)) _
-    (plan-unread h (words_of s) (lengthsOf (before_of s)) peak (peak-given c.before.before.before.before.before.before.before.before.before.before.before.before.before.before.before.before.before.before.before.before.before.before.before.before.before) (head-unread c.before.before.before.before.before.before.before.before.before.before.before.before.before.before.before.before.before.before.before.before.before.before.before))
-    (unread-same h.initial_k peak _ c.unread-plan.ensures)
-    (unread-held h.initial_k peak 0 0 (before_of s) (cleared2-of cleared) cleared.clear-all2.ensures)
+    answers h (words_of s) (before_of s) (cleared2-of cleared) (planned (unread_plan h.initial_k peak)) _
+    (plan_unread h (words_of s) (lengths_of (before_of s)) peak (peak_given c.before.before.before.before.before.before.before.before.before.before.before.before.before.before.before.before.before.before.before.before.before.before.before.before.before) (head_unread c.before.before.before.before.before.before.before.before.before.before.before.before.before.before.before.before.before.before.before.before.before.before.before))
+    (unread_same h.initial_k peak _ c.unread-plan.ensures)
+    (unread_held h.initial_k peak 0 0 (before_of s) (cleared2-of cleared) cleared.clear-all2.ensures)
 
 plan-read-requires : tie.Need-plan-read-requires
 plan-read-requires c κs = search rules
@@ -194,10 +194,10 @@ returns-2 c =
     let s = c.before.before.before.before.before.before.before.before.before.before.before.before.before.before.before.before.before.before.before.before.before.before.before.before.before.before.before.before.before.before.before.before.before.before in
     let h = s.args.head in
     let told = c.before.before.before.before.before.before.before.before.before.before.before.before.before.before.before.before.before.before.before.before.before.before.before.peak.given in
-    answers h (words_of s) (before_of s) (cleared-of cleared) (refusedAt told.0.0 0) _
-    (plan-headless h (words_of s) (lengthsOf (before_of s)) told.0.0 (ap densePeakOf (sym told.1) ∙ c.before.before.before.before.before.before.before.before.before.before.before.before.before.before.before.before.before.before.before.before.before.before.before.before.before.dense-peak.ensures))
+    answers h (words_of s) (before_of s) (cleared-of cleared) (refused_at told.0.0 0) _
+    (plan_headless h (words_of s) (lengths_of (before_of s)) told.0.0 (ap dense_peak_of (sym told.1) ∙ c.before.before.before.before.before.before.before.before.before.before.before.before.before.before.before.before.before.before.before.before.before.before.before.before.before.dense_peak_is.ensures))
     refl
-    (zeros-held 0 0 told.0.0 0 (before_of s) (before_of s) (cleared-of cleared) (same_here (before_of s)) cleared.clear-all.ensures)
+    (zeros_held 0 0 told.0.0 0 (before_of s) (before_of s) (cleared-of cleared) (same_here (before_of s)) cleared.clear-all.ensures)
 
 same-length-15 : tie.Need-same-length-15
 same-length-15 c = search rules
@@ -226,7 +226,7 @@ returns-3 c =
     let asked = c.before.before.before.before.before.before.before.before.before.before.before.before.before.before.before.before.before.before.before.before.before.before.before.before.before.before.before.before.before.before.before.before.before.before.before.before.before.before.before in
     let s = c.before.before.before.before.before.before.before.before.before.before.before.before.before.before.before.before.before.before.before.before.before.before.before.before.before.before.before.before.before.before.before.before.before.before.before.before.before.before.before.before.before.before.before.before.before.before.before.before.before.before.before.before.before.before.before.before.before.before.before.before.before in
     let told = c.before.before.before.before.before.before.before.before.before.before.before.before.before.before.before.before.before.before.before.before.before.before.before.planned.given in
-    refused-answers s.args.head _ (words_of s) (before_of s) (read_of asked) _ (is_read c.before.before.before.before.before.before.before.before.before.before.before.before.before.before.before.before.before.before.before.before.before.before.before.before.before.before.before.before.before.before.before.before.before.before.before.before.before.before.before.before.before.before.before.before.before.before.before) asked.plan-read.ensures
+    refused_answers s.args.head _ (words_of s) (before_of s) (read_of asked) _ (is_read c.before.before.before.before.before.before.before.before.before.before.before.before.before.before.before.before.before.before.before.before.before.before.before.before.before.before.before.before.before.before.before.before.before.before.before.before.before.before.before.before.before.before.before.before.before.before.before) asked.plan-read.ensures
     told.0.0 told.0.1.0 (cleared3-of cleared) told.1 (same_read asked) cleared.clear-all3.ensures
 
 same-length-22 : tie.Need-same-length-22
@@ -255,7 +255,7 @@ returns-4 c =
     let asked = c.before.before.before.before.before.before.before.before.before.before.before.before.before.before.before.before in
     let s = c.before.before.before.before.before.before.before.before.before.before.before.before.before.before.before.before.before.before.before.before.before.before.before.before.before.before.before.before.before.before.before.before.before.before.before.before.before.before in
     let told = c.enum_told.given in
-    planned-answers s.args.head _ (words_of s) (before_of s) (read_of asked) _ (is_read c.before.before.before.before.before.before.before.before.before.before.before.before.before.before.before.before.before.before.before.before.before.before.before.before) asked.plan-read.ensures told.0.0 told.1
+    planned_answers s.args.head _ (words_of s) (before_of s) (read_of asked) _ (is_read c.before.before.before.before.before.before.before.before.before.before.before.before.before.before.before.before.before.before.before.before.before.before.before.before) asked.plan-read.ensures told.0.0 told.1
 
 pub build-active-component-plan-spec : {M : Type 1} → statement M
 build-active-component-plan-spec =

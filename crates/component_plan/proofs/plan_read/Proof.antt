@@ -7,18 +7,18 @@ use mathlib.Core.Bool.{Bool}
 use mathlib.Core.List.{List}
 use Prim.Native.Nat.{ℕ, ◌/◌, ◌<◌, ◌≤◌}
 use lib.ListN.{length, take, get_or, length-take}
-use Rattle.records.specs.Record.{instructionsOf}
-use Rattle.records.specs.Pass.{recordPass}
+use Rattle.records.specs.Record.{instructions_of}
+use Rattle.records.specs.Pass.{record_pass}
 use Rattle.records.specs.declared.Checked.TheVariants.{Passed}
-use Rattle.definition.specs.Components.{allocatedFor}
-use Rattle.definition.specs.Walk.{Walk, finished, start, walkFrom}
-use Rattle.definition.specs.Plan.{planned, planFrom, planRead, buffersRefused, afterWalk}
-use Rattle.definition.proofs.Steps.{Run, run-of-walk}
-use Rattle.walk.specs.Walking.{Buffers, lengthsOf, Walkable, Ended, SameLengths}
-use Rattle.lent.specs.Lent.{Held, lentNumber}
-use Rattle.definition.proofs.Sizes.{reached-longest}
-use Rattle.component_plan.proofs.Filled.{front_fits, front-of-padded, used-fit, used-same, whole_same, size-words, walk-held}
-use Rattle.component_plan.proofs.Refusals.{lent-refused, lent-words, lent-few, lent-room, lent-initial, lent-passed, walk-stops, walk-finishes, read-refused, read-planned, plan-same}
+use Rattle.definition.specs.Components.{allocated_for}
+use Rattle.definition.specs.Walk.{Walk, finished, start, walk_from}
+use Rattle.definition.specs.Plan.{planned, plan_from, plan_read, buffers_refused, after_walk}
+use Rattle.definition.proofs.Steps.{Run, run_of_walk}
+use Rattle.walk.specs.Walking.{Buffers, lengths_of, Walkable, Ended, SameLengths}
+use Rattle.lent.specs.Lent.{Held, lent_number}
+use Rattle.definition.proofs.Sizes.{reached_longest}
+use Rattle.component_plan.proofs.Filled.{front_fits, front_of_padded, used_fit, used_same, whole_same, size_words, walk_held}
+use Rattle.component_plan.proofs.Refusals.{lent_refused, lent_words, lent_few, lent_room, lent_initial, lent_passed, walk_stops, walk_finishes, read-refused, read_planned, plan_same}
 use Rattle.component_plan.proofs.plan_read.Statement.{statement}
 use Rattle.component_plan.proofs.plan_read.Tie as tie
 
@@ -36,8 +36,8 @@ before_of s = record {
 abbrev words_of : tie.Start → List ℕ
 words_of s = s.args.records.now
 
-abbrev walked-of : tie.After-walk → Buffers
-walked-of c = record {
+abbrev walked_of : tie.After-walk → Buffers
+walked_of c = record {
   steps = c.walk.new.1.1.1.0;
   merges = c.walk.new.1.1.1.1.0;
   sizes = c.walk.new.1.1.1.1.1.0;
@@ -67,44 +67,44 @@ within : {a b c d : ℕ} → a ≡ b → b ≤ c → d ≡ c → a ≤ d
 within e h f = omega arith
 
 -- the number that is lent
-abbrev lent-start : tie.After-lent-number → tie.Start
-lent-start c = c.before.before.before.before.before.before.before.before.before.before
+abbrev lent_start : tie.After-lent-number → tie.Start
+lent_start c = c.before.before.before.before.before.before.before.before.before.before
 
 lent : (c : tie.After-lent-number)
-    → c.lent-number.result ≡ lentNumber (lent-start c).args.head.initial_k (length (words_of (lent-start c))) (buffersRefused (length (words_of (lent-start c)) / 8) (lengthsOf (before_of (lent-start c))))
-lent c = c.lent-number.ensures ∙ ap (λ (b : Bool). lentNumber (lent-start c).args.head.initial_k (length (words_of (lent-start c))) b) c.before.buffers-short.ensures
+    → c.lent-number.result ≡ lent_number (lent_start c).args.head.initial_k (length (words_of (lent_start c))) (buffers_refused (length (words_of (lent_start c)) / 8) (lengths_of (before_of (lent_start c))))
+lent c = c.lent-number.ensures ∙ ap (λ (b : Bool). lent_number (lent_start c).args.head.initial_k (length (words_of (lent_start c))) b) c.before.buffers-short.ensures
 
 -- the record pass passed
-passed : (c : tie.After-enum-told) → recordPass (lent-start c.before.before.before.before).args.head.initial_k (words_of (lent-start c.before.before.before.before)) ≡ Passed
+passed : (c : tie.After-enum-told) → record_pass (lent_start c.before.before.before.before).args.head.initial_k (words_of (lent_start c.before.before.before.before)) ≡ Passed
 passed c = sym c.before.before.check-records.ensures ∙ c.enum_told.given.1
 
-walkable : (c : tie.After-enum-told) → let s = lent-start c.before.before.before.before in Walkable s.args.head.initial_k (words_of s) (before_of s)
+walkable : (c : tie.After-enum-told) → let s = lent_start c.before.before.before.before in Walkable s.args.head.initial_k (words_of s) (before_of s)
 walkable c =
     let n = c.before.before.before.before in
-    let s = lent-start n in
+    let s = lent_start n in
     let a = s.args in
     let zero = c.before.before.before.if1.false in record {
-      initial-small = lent-initial a.head (words_of s) (lengthsOf (before_of s)) a.dense-peak _ (lent n) zero;
-      whole = lent-words a.head (words_of s) (lengthsOf (before_of s)) a.dense-peak _ (lent n) zero;
-      room = lent-room a.head (words_of s) (lengthsOf (before_of s)) a.dense-peak _ (lent n) zero;
+      initial_small = lent_initial a.head (words_of s) (lengths_of (before_of s)) a.dense_peak_is _ (lent n) zero;
+      whole = lent_words a.head (words_of s) (lengths_of (before_of s)) a.dense_peak_is _ (lent n) zero;
+      room = lent_room a.head (words_of s) (lengths_of (before_of s)) a.dense_peak_is _ (lent n) zero;
       passed = passed c;
     }
 
 -- so the walk decides
-read_walk : (c : tie.After-enum-told) → let s = lent-start c.before.before.before.before in
-    planRead s.args.head (words_of s) (lengthsOf (before_of s)) s.args.dense-peak
-    ≡ afterWalk s.args.head.initial_k s.args.dense-peak (walkFrom s.args.head.ceiling 0 (start s.args.head.initial_k) (instructionsOf (words_of s)))
+read_walk : (c : tie.After-enum-told) → let s = lent_start c.before.before.before.before in
+    plan_read s.args.head (words_of s) (lengths_of (before_of s)) s.args.dense_peak_is
+    ≡ after_walk s.args.head.initial_k s.args.dense_peak_is (walk_from s.args.head.ceiling 0 (start s.args.head.initial_k) (instructions_of (words_of s)))
 read_walk c =
     let n = c.before.before.before.before in
-    let s = lent-start n in
+    let s = lent_start n in
     let a = s.args in
-    lent-passed a.head (words_of s) (lengthsOf (before_of s)) a.dense-peak _ (lent n) c.before.before.before.if1.false Passed (passed c)
+    lent_passed a.head (words_of s) (lengths_of (before_of s)) a.dense_peak_is _ (lent n) c.before.before.before.if1.false Passed (passed c)
 
 abbrev walk_start : tie.After-walk → tie.Start
-walk_start c = lent-start c.before.before.before.before.before.before.before.before.before.before.before.before
+walk_start c = lent_start c.before.before.before.before.before.before.before.before.before.before.before.before
 
 -- the walk keeps the lengths
-same : (c : tie.After-walk) → SameLengths (before_of (walk_start c)) (walked-of c)
+same : (c : tie.After-walk) → SameLengths (before_of (walk_start c)) (walked_of c)
 same c = record {
   steps = c.walk.auto.1.1.1.0;
   merges = c.walk.auto.1.1.1.1.0;
@@ -117,43 +117,43 @@ same c = record {
 
 -- a finished walk, its state and its run
 ended : (c : tie.After-walked2) → let a = (walk_start c.before.before.before.before.before.before.before.before.before.before.before.before.before.before.before.before).args in
-    (w : Walk) × (walkFrom a.head.ceiling 0 (start a.head.initial_k) (instructionsOf a.records.now) ≡ finished w)
-    × Ended w c.walked2.given.0.0 (walked-of c.before.before.before.before.before.before.before.before.before.before.before.before.before.before.before.before)
+    (w : Walk) × (walk_from a.head.ceiling 0 (start a.head.initial_k) (instructions_of a.records.now) ≡ finished w)
+    × Ended w c.walked2.given.0.0 (walked_of c.before.before.before.before.before.before.before.before.before.before.before.before.before.before.before.before)
 ended c =
     let a = (walk_start c.before.before.before.before.before.before.before.before.before.before.before.before.before.before.before.before).args in
-    walk-finishes (walkFrom a.head.ceiling 0 (start a.head.initial_k) (instructionsOf a.records.now)) _ c.walked2.given.0.0 (walked-of c.before.before.before.before.before.before.before.before.before.before.before.before.before.before.before.before)
+    walk_finishes (walk_from a.head.ceiling 0 (start a.head.initial_k) (instructions_of a.records.now)) _ c.walked2.given.0.0 (walked_of c.before.before.before.before.before.before.before.before.before.before.before.before.before.before.before.before)
     c.walked2.given.1 c.before.before.before.before.before.before.before.before.before.before.before.before.before.before.before.before.walk.ensures
 
-run : (c : tie.After-walked2) → let a = (walk_start c.before.before.before.before.before.before.before.before.before.before.before.before.before.before.before.before).args in Run a.head.ceiling (start a.head.initial_k) (instructionsOf a.records.now) (ended c).0
-run c = let a = (walk_start c.before.before.before.before.before.before.before.before.before.before.before.before.before.before.before.before).args in run-of-walk a.head.ceiling 0 (start a.head.initial_k) (ended c).0 (instructionsOf a.records.now) (ended c).1
+run : (c : tie.After-walked2) → let a = (walk_start c.before.before.before.before.before.before.before.before.before.before.before.before.before.before.before.before).args in Run a.head.ceiling (start a.head.initial_k) (instructions_of a.records.now) (ended c).0
+run c = let a = (walk_start c.before.before.before.before.before.before.before.before.before.before.before.before.before.before.before.before).args in run_of_walk a.head.ceiling 0 (start a.head.initial_k) (ended c).0 (instructions_of a.records.now) (ended c).1
 
 -- what the buffers hold in the end
 held : (c : tie.After-clear-rest) → let s = walk_start c.before.before.before.before.before.before.before.before.before.before.before.before.before.before.before.before.before.before.before.before.before.before.before.before.before in
-    Held (planned (planFrom s.args.head.initial_k s.args.dense-peak (ended c.before.before.before.before.before.before.before.before.before).0)) (before_of s) (cleared-of c)
+    Held (planned (plan_from s.args.head.initial_k s.args.dense_peak_is (ended c.before.before.before.before.before.before.before.before.before).0)) (before_of s) (cleared-of c)
 held c =
     let w = c.before.before.before.before.before.before.before.before.before in
     let s = walk_start c.before.before.before.before.before.before.before.before.before.before.before.before.before.before.before.before.before.before.before.before.before.before.before.before.before in
-    walk-held s.args.head.initial_k (words_of s) (ended w).0 (run w) w.walked2.given.0.0 (walked-of c.before.before.before.before.before.before.before.before.before.before.before.before.before.before.before.before.before.before.before.before.before.before.before.before.before) (ended w).2
-    s.args.dense-peak (before_of s) (cleared-of c) (same c.before.before.before.before.before.before.before.before.before.before.before.before.before.before.before.before.before.before.before.before.before.before.before.before.before) c.clear-rest.ensures
+    walk_held s.args.head.initial_k (words_of s) (ended w).0 (run w) w.walked2.given.0.0 (walked_of c.before.before.before.before.before.before.before.before.before.before.before.before.before.before.before.before.before.before.before.before.before.before.before.before.before) (ended w).2
+    s.args.dense_peak_is (before_of s) (cleared-of c) (same c.before.before.before.before.before.before.before.before.before.before.before.before.before.before.before.before.before.before.before.before.before.before.before.before.before) c.clear-rest.ensures
 
 size-count : (c : tie.After-walked2) → c.walked2.given.0.0.count ≡ length (ended c).0.longest
 size-count c =
     let s = walk_start c.before.before.before.before.before.before.before.before.before.before.before.before.before.before.before.before in
-    size-words s.args.head.initial_k (words_of s) (ended c).0 (run c) c.walked2.given.0.0 (walked-of c.before.before.before.before.before.before.before.before.before.before.before.before.before.before.before.before) (ended c).2
+    size_words s.args.head.initial_k (words_of s) (ended c).0 (run c) c.walked2.given.0.0 (walked_of c.before.before.before.before.before.before.before.before.before.before.before.before.before.before.before.before) (ended c).2
 
 -- the used sizes are the longest sizes
-sizes-front : (c : tie.After-clear-rest) → take c.before.before.before.before.before.before.before.before.before.walked2.given.0.0.count (cleared-of c).sizes ≡ (ended c.before.before.before.before.before.before.before.before.before).0.longest
-unfolding planFrom
-sizes-front c =
+sizes_front : (c : tie.After-clear-rest) → take c.before.before.before.before.before.before.before.before.before.walked2.given.0.0.count (cleared-of c).sizes ≡ (ended c.before.before.before.before.before.before.before.before.before).0.longest
+unfolding plan_from
+sizes_front c =
     let w = c.before.before.before.before.before.before.before.before.before in
-    front-of-padded (length (before_of (walk_start c.before.before.before.before.before.before.before.before.before.before.before.before.before.before.before.before.before.before.before.before.before.before.before.before.before)).sizes) _ (ended w).0.longest (cleared-of c).sizes (size-count w) (held c).sizes
+    front_of_padded (length (before_of (walk_start c.before.before.before.before.before.before.before.before.before.before.before.before.before.before.before.before.before.before.before.before.before.before.before.before.before)).sizes) _ (ended w).0.longest (cleared-of c).sizes (size-count w) (held c).sizes
 
 count_fits : (c : tie.After-clear-rest) → c.before.before.before.before.before.before.before.before.before.walked2.given.0.0.count ≤ length (cleared-of c).sizes
 count_fits c =
     let w = c.before.before.before.before.before.before.before.before.before in
     let count = size-count w in
-    let front = front_fits (ended w).0.longest (walked-of c.before.before.before.before.before.before.before.before.before.before.before.before.before.before.before.before.before.before.before.before.before.before.before.before.before).sizes (ended w).2.sizes in
-    let kept : length (cleared-of c).sizes ≡ length (walked-of c.before.before.before.before.before.before.before.before.before.before.before.before.before.before.before.before.before.before.before.before.before.before.before.before.before).sizes = c.clear-rest.auto.1.1.1.1.0 in
+    let front = front_fits (ended w).0.longest (walked_of c.before.before.before.before.before.before.before.before.before.before.before.before.before.before.before.before.before.before.before.before.before.before.before.before.before).sizes (ended w).2.sizes in
+    let kept : length (cleared-of c).sizes ≡ length (walked_of c.before.before.before.before.before.before.before.before.before.before.before.before.before.before.before.before.before.before.before.before.before.before.before.before.before).sizes = c.clear-rest.auto.1.1.1.1.0 in
     within count front kept
 
 buffers-short-requires : tie.Need-buffers-short-requires
@@ -165,10 +165,10 @@ lent-number-requires c κs = search rules
 returns : tie.Need-returns
 returns c =
     let n = c.before in
-    let s = lent-start n in
+    let s = lent_start n in
     let a = s.args in
-    read-refused a.head a.dense-peak (words_of s) (before_of s) (before_of s) _ 0
-    (lent-refused a.head (words_of s) (lengthsOf (before_of s)) a.dense-peak _ (lent n) c.if1.true)
+    read-refused a.head a.dense_peak_is (words_of s) (before_of s) (before_of s) _ 0
+    (lent_refused a.head (words_of s) (lengths_of (before_of s)) a.dense_peak_is _ (lent n) c.if1.true)
 
 check-records-requires : tie.Need-check-records-requires
 check-records-requires c κs = search rules
@@ -193,8 +193,8 @@ clear-rest-requires c κs =
     let w = c.before.before.before.before.before.before.before.before in
     let s = walk_start w.before.before.before.before.before.before.before.before.before.before.before.before.before.before.before.before in
     let n = w.before.before.before.before.before.before.before.before.before.before.before.before.before.before.before.before.before.before.before.before.before.before.before.before.before.before.before.before in
-    used-fit s.args.head.initial_k (words_of s) (ended w).0 (run w) w.walked2.given.0.0 (walked-of w.before.before.before.before.before.before.before.before.before.before.before.before.before.before.before.before) (ended w).2
-    (lent-few s.args.head (words_of s) (lengthsOf (before_of s)) s.args.dense-peak _ (lent n) w.before.before.before.before.before.before.before.before.before.before.before.before.before.before.before.before.before.before.before.before.before.before.before.before.before.before.before.if1.false)
+    used_fit s.args.head.initial_k (words_of s) (ended w).0 (run w) w.walked2.given.0.0 (walked_of w.before.before.before.before.before.before.before.before.before.before.before.before.before.before.before.before) (ended w).2
+    (lent_few s.args.head (words_of s) (lengths_of (before_of s)) s.args.dense_peak_is _ (lent n) w.before.before.before.before.before.before.before.before.before.before.before.before.before.before.before.before.before.before.before.before.before.before.before.before.before.before.before.if1.false)
 
 slice-reshare-prefix-allocated : tie.Need-slice-reshare-prefix-allocated
 slice-reshare-prefix-allocated c = count_fits c.before.before.before.before.before.before.before.before.before.before.before.before.before.before
@@ -205,23 +205,23 @@ slice-aggregate-allocated c = taken _ _ (count_fits c.before.before.before.befor
 allocated-requires : tie.Need-allocated-requires
 allocated-requires c κs =
     let w = c.before.before.before.before.before.before.before.before.before.before.before.before.before.before.before.before.before.before.before.before.before.before.before.before in
-    λ i h. subst (λ (l : List ℕ). get_or l i 0 < 64) (sym (sizes-front c.before.before.before.before.before.before.before.before.before.before.before.before.before.before.before)) (reached-longest 64 (omega arith) (omega arith) (walk_start w.before.before.before.before.before.before.before.before.before.before.before.before.before.before.before.before).args.head.initial_k (run w) i)
+    λ i h. subst (λ (l : List ℕ). get_or l i 0 < 64) (sym (sizes_front c.before.before.before.before.before.before.before.before.before.before.before.before.before.before.before)) (reached_longest 64 (omega arith) (omega arith) (walk_start w.before.before.before.before.before.before.before.before.before.before.before.before.before.before.before.before).args.head.initial_k (run w) i)
 
 plan-of-requires : tie.Need-plan-of-requires
 plan-of-requires c κs =
     let w = c.before.before.before.before.before.before.before.before.before.before.before.before.before.before.before.before.before.before.before.before.before.before.before.before.before in
     let s = walk_start w.before.before.before.before.before.before.before.before.before.before.before.before.before.before.before.before in
     let n = w.before.before.before.before.before.before.before.before.before.before.before.before.before.before.before.before.before.before.before.before.before.before.before.before.before.before.before.before in
-    used-fit s.args.head.initial_k (words_of s) (ended w).0 (run w) w.walked2.given.0.0 (walked-of w.before.before.before.before.before.before.before.before.before.before.before.before.before.before.before.before) (ended w).2
-    (lent-few s.args.head (words_of s) (lengthsOf (before_of s)) s.args.dense-peak _ (lent n) w.before.before.before.before.before.before.before.before.before.before.before.before.before.before.before.before.before.before.before.before.before.before.before.before.before.before.before.if1.false)
+    used_fit s.args.head.initial_k (words_of s) (ended w).0 (run w) w.walked2.given.0.0 (walked_of w.before.before.before.before.before.before.before.before.before.before.before.before.before.before.before.before) (ended w).2
+    (lent_few s.args.head (words_of s) (lengths_of (before_of s)) s.args.dense_peak_is _ (lent n) w.before.before.before.before.before.before.before.before.before.before.before.before.before.before.before.before.before.before.before.before.before.before.before.before.before.before.before.if1.false)
 
 returns-2 : tie.Need-returns-2
 returns-2 c =
     let n = c.before.before.before.before.before in
-    let s = lent-start n in
+    let s = lent_start n in
     let a = s.args in
-    read-refused a.head a.dense-peak (words_of s) (before_of s) (before_of s) _ _
-    (lent-passed a.head (words_of s) (lengthsOf (before_of s)) a.dense-peak _ (lent n) c.before.before.before.before.if1.false _
+    read-refused a.head a.dense_peak_is (words_of s) (before_of s) (before_of s) _ _
+    (lent_passed a.head (words_of s) (lengths_of (before_of s)) a.dense_peak_is _ (lent n) c.before.before.before.before.if1.false _
     (sym c.before.before.before.check-records.ensures ∙ c.before.checked.given.1))
 
 same_length : tie.Need-same-length
@@ -250,10 +250,10 @@ returns-3 c =
     let walked = c.before.before.before.before.before.before.before.before.before.before.before.before.before.before.before.before.before in
     let s = walk_start walked in
     let a = s.args in
-    read-refused a.head a.dense-peak (words_of s) (before_of s) (walked-of walked) _ _
+    read-refused a.head a.dense_peak_is (words_of s) (before_of s) (walked_of walked) _ _
     (read_walk walked.before.before.before.before.before.before.before.before
-    ∙ ap (afterWalk a.head.initial_k a.dense-peak)
-    (walk-stops (walkFrom a.head.ceiling 0 (start a.head.initial_k) (instructionsOf (words_of s))) _ _ _ (walked-of walked) c.before.walked.given.1 walked.walk.ensures))
+    ∙ ap (after_walk a.head.initial_k a.dense_peak_is)
+    (walk_stops (walk_from a.head.ceiling 0 (start a.head.initial_k) (instructions_of (words_of s))) _ _ _ (walked_of walked) c.before.walked.given.1 walked.walk.ensures))
 
 same-length-8 : tie.Need-same-length-8
 same-length-8 c = c.before.before.before.before.before.before.before.before.before.before.before.before.before.before.before.before.before.clear-rest.auto.1.1.0 ∙ (same c.before.before.before.before.before.before.before.before.before.before.before.before.before.before.before.before.before.before.before.before.before.before.before.before.before.before.before.before.before.before.before.before.before.before.before.before.before.before.before.before.before.before).steps
@@ -284,13 +284,13 @@ returns-4 c =
     let s = walk_start walked in
     let n = w.before.before.before.before.before.before.before.before.before.before.before.before.before.before.before.before.before.before.before.before.before.before.before.before.before.before.before.before in
     let a = s.args in
-    read-planned a.head a.dense-peak (words_of s) (before_of s) (cleared-of cleared) (planFrom a.head.initial_k a.dense-peak (ended w).0) _
-    (read_walk walked.before.before.before.before.before.before.before.before ∙ ap (afterWalk a.head.initial_k a.dense-peak) (ended w).1)
-    (plan-same a.head.initial_k a.dense-peak (ended w).0 w.walked2.given.0.0 (walked-of walked) c.before.allocated.result _ _ c.plan-of.result (ended w).2
-    (c.before.allocated.ensures ∙ ap allocatedFor (sizes-front cleared))
-    (whole_same a.head.initial_k (words_of s) (ended w).0 (run w) w.walked2.given.0.0 (walked-of walked) (ended w).2
-    (lent-few a.head (words_of s) (lengthsOf (before_of s)) a.dense-peak _ (lent n) w.before.before.before.before.before.before.before.before.before.before.before.before.before.before.before.before.before.before.before.before.before.before.before.before.before.before.before.if1.false))
-    (used-same a.head.initial_k (words_of s) (ended w).0 (run w) w.walked2.given.0.0 (walked-of walked) (ended w).2 a.dense-peak)
+    read_planned a.head a.dense_peak_is (words_of s) (before_of s) (cleared-of cleared) (plan_from a.head.initial_k a.dense_peak_is (ended w).0) _
+    (read_walk walked.before.before.before.before.before.before.before.before ∙ ap (after_walk a.head.initial_k a.dense_peak_is) (ended w).1)
+    (plan_same a.head.initial_k a.dense_peak_is (ended w).0 w.walked2.given.0.0 (walked_of walked) c.before.allocated.result _ _ c.plan-of.result (ended w).2
+    (c.before.allocated.ensures ∙ ap allocated_for (sizes_front cleared))
+    (whole_same a.head.initial_k (words_of s) (ended w).0 (run w) w.walked2.given.0.0 (walked_of walked) (ended w).2
+    (lent_few a.head (words_of s) (lengths_of (before_of s)) a.dense_peak_is _ (lent n) w.before.before.before.before.before.before.before.before.before.before.before.before.before.before.before.before.before.before.before.before.before.before.before.before.before.before.before.if1.false))
+    (used_same a.head.initial_k (words_of s) (ended w).0 (run w) w.walked2.given.0.0 (walked_of walked) (ended w).2 a.dense_peak_is)
     c.plan-of.ensures)
     (held cleared)
 

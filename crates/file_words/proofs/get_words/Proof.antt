@@ -7,7 +7,7 @@ use native.Mathlib.Numerals.{add-one}
 use native.Mathlib.Omega.{arith}
 use lib.ListN.{length, take, set, length-set}
 use lib.Seq.{take_all, take-suc-set}
-use Rattle.file_words.specs.Words.{wordsAt}
+use Rattle.file_words.specs.Words.{words_at}
 use Rattle.file_words.proofs.Bytes.{words_more}
 use borrow.Author.Rules.{rules}
 use Rattle.file_words.proofs.get_words.Statement.{statement}
@@ -15,7 +15,7 @@ use Rattle.file_words.proofs.get_words.Tie as tie
 
 abbrev invariant-loop : tie.invariant-loop
 invariant-loop file at words₀ i₀ words i =
-    (i ≤ length words₀) × (length words ≡ length words₀) × (take i words ≡ wordsAt file at i)
+    (i ≤ length words₀) × (length words ≡ length words₀) × (take i words ≡ words_at file at i)
 
 abbrev decreases-loop : tie.decreases-loop
 decreases-loop file at words₀ i₀ words i = length words₀ - i
@@ -43,15 +43,15 @@ loop-less c = search rules
 
 loop-again : tie.Need-loop-preserved invariant-loop decreases-loop
 loop-again c =
-    let at-loop = c.before.before in
-    let start = at-loop.before.before.before in
-    let written = at-loop.loop.invariant.1 in (
+    let at_loop = c.before.before in
+    let start = at_loop.before.before.before in
+    let written = at_loop.loop.invariant.1 in (
       omega arith,
       simp length-set written,
-      ap (λ (n : ℕ). take n (set at-loop.loop.words at-loop.loop.i c.word-at.result)) (add-one at-loop.loop.i)
-          ∙ take-suc-set at-loop.loop.words at-loop.loop.i c.word-at.result (omega arith)
-          ∙ ap₂ (λ (l : List ℕ) (w : ℕ). l ++ (w ∷ [])) at-loop.loop.invariant.2 c.word-at.ensures
-          ∙ sym (words_more start.args.file.now start.args.at at-loop.loop.i),
+      ap (λ (n : ℕ). take n (set at_loop.loop.words at_loop.loop.i c.word-at.result)) (add-one at_loop.loop.i)
+          ∙ take-suc-set at_loop.loop.words at_loop.loop.i c.word-at.result (omega arith)
+          ∙ ap₂ (λ (l : List ℕ) (w : ℕ). l ++ (w ∷ [])) at_loop.loop.invariant.2 c.word-at.ensures
+          ∙ sym (words_more start.args.file.now start.args.at at_loop.loop.i),
     )
 
 same_length : tie.Need-same-length invariant-loop decreases-loop
@@ -59,13 +59,13 @@ same_length c = search rules
 
 returns : tie.Need-returns invariant-loop decreases-loop
 returns c =
-    let at-loop = c.before in
-    let start = at-loop.before.before.before in
-    let long = at-loop.loop.invariant.1 in
-    let last : at-loop.loop.i ≡ length start.args.words.now = omega arith in
-    sym (take_all at-loop.loop.i at-loop.loop.words (omega arith))
-    ∙ at-loop.loop.invariant.2
-    ∙ ap (λ (n : ℕ). wordsAt start.args.file.now start.args.at n) last
+    let at_loop = c.before in
+    let start = at_loop.before.before.before in
+    let long = at_loop.loop.invariant.1 in
+    let last : at_loop.loop.i ≡ length start.args.words.now = omega arith in
+    sym (take_all at_loop.loop.i at_loop.loop.words (omega arith))
+    ∙ at_loop.loop.invariant.2
+    ∙ ap (λ (n : ℕ). words_at start.args.file.now start.args.at n) last
 
 pub get-words-spec : {M : Type 1} → statement M
 get-words-spec =

@@ -8,9 +8,9 @@ use native.Mathlib.Omega.{arith}
 use lib.ListN.{length, get_or, take}
 use lib.Seq.{take_all, length-take-le}
 use Rattle.outputs.specs.Buffers.{patch}
-use Rattle.outputs.proofs.Parts.{part-written}
+use Rattle.outputs.proofs.Parts.{part_written}
 use Rattle.file_words.specs.Words.{bytes_of, word_bytes}
-use Rattle.file_words.proofs.Bytes.{length-bytes, length-patch, patch-none, turn-writes}
+use Rattle.file_words.proofs.Bytes.{length_bytes, length_patch, patch_none, turn_writes}
 use borrow.Author.Rules.{rules}
 use Rattle.file_words.proofs.put_words.Statement.{statement}
 use Rattle.file_words.proofs.put_words.Tie as tie
@@ -23,7 +23,7 @@ abbrev decreases-loop : tie.decreases-loop
 decreases-loop words file₀ at i₀ file i = length words - i
 
 loop-holds : tie.Need-loop-init invariant-loop decreases-loop
-loop-holds c = (search rules, refl, patch-none (8 * c.before.before.args.at) c.before.before.args.file.now)
+loop-holds c = (search rules, refl, patch_none (8 * c.before.before.args.at) c.before.before.args.file.now)
 
 add-place : tie.Need-overflow-add-place invariant-loop decreases-loop
 add-place c = search rules
@@ -58,31 +58,31 @@ loop-less c = search rules
 loop-again : tie.Need-loop-preserved invariant-loop decreases-loop
 loop-again c =
     let call = c.before.before in
-    let at-loop = call.before.before.before.before in
-    let start = at-loop.before.before.before in
-    let place = 8 * (start.args.at + at-loop.loop.i) in
+    let at_loop = call.before.before.before.before in
+    let start = at_loop.before.before.before in
+    let place = 8 * (start.args.at + at_loop.loop.i) in
     let words = start.args.words.now in
     let file = start.args.file.now in
-    let i = at-loop.loop.i in
+    let i = at_loop.loop.i in
     let word = bytes_of 8 (get_or words i 0) in
     let turned =
-    part-written place 8 word at-loop.loop.file call.write_word.new.0 refl call.write_word.ensures
-    ∙ ap (λ (l : List ℕ). patch place word l) at-loop.loop.invariant.2
-    ∙ turn-writes words file start.args.at i (omega arith) start.requires in
-    let bytes = length-bytes (take (i + 1) words) in
+    part_written place 8 word at_loop.loop.file call.write_word.new.0 refl call.write_word.ensures
+    ∙ ap (λ (l : List ℕ). patch place word l) at_loop.loop.invariant.2
+    ∙ turn_writes words file start.args.at i (omega arith) start.requires in
+    let bytes = length_bytes (take (i + 1) words) in
     let long = length-take-le (i + 1) words (omega arith) in
-    (omega arith, ap length turned ∙ length-patch (8 * start.args.at) (word_bytes (take (i + 1) words)) file (omega (arith, start.requires, bytes, long)), turned)
+    (omega arith, ap length turned ∙ length_patch (8 * start.args.at) (word_bytes (take (i + 1) words)) file (omega (arith, start.requires, bytes, long)), turned)
 
 same_length : tie.Need-same-length invariant-loop decreases-loop
 same_length c = search rules
 
 returns : tie.Need-returns invariant-loop decreases-loop
 returns c =
-    let at-loop = c.before in
-    let start = at-loop.before.before.before in
-    at-loop.loop.invariant.2
+    let at_loop = c.before in
+    let start = at_loop.before.before.before in
+    at_loop.loop.invariant.2
     ∙ ap (λ (l : List ℕ). patch (8 * start.args.at) (word_bytes l) start.args.file.now)
-    (take_all at-loop.loop.i start.args.words.now (omega arith))
+    (take_all at_loop.loop.i start.args.words.now (omega arith))
 
 pub put-words-spec : {M : Type 1} → statement M
 put-words-spec =

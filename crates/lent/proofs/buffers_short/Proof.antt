@@ -1,4 +1,4 @@
--- `buffers_short` meets its contract: each return has shown by the tests before it which of the seven comparisons of `buffersRefused` hold.
+-- `buffers_short` meets its contract: each return has shown by the tests before it which of the seven comparisons of `buffers_refused` hold.
 use Rattle.std.proofs.Common.{rules, le-ltb, lt-ltb}
 use Rattle.lent.proofs.buffers_short.Statement.{statement}
 use Rattle.lent.proofs.buffers_short.Tie as tie

@@ -1,18 +1,18 @@
 -- `dense_peak` meets its contract: the two tests are the two ways out of 1 to 62, and behind them the dimension of max_k decides.
 use Rattle.std.proofs.Common.{◌≡◌, ◌≤◌, sym, ap, ◌∙◌, rules, le-ltb, lt-ltb}
-use Rattle.kernels.specs.Bits.{dimension, dimensionOf}
+use Rattle.kernels.specs.Bits.{dimension, dimension_of}
 use Rattle.kernels.specs.declared.bits.ActiveLength.{ActiveLength}
 use Rattle.records.specs.declared.Head.{Head}
-use Rattle.lent.specs.Lent.{peakAnswer, headAnswer}
+use Rattle.lent.specs.Lent.{peak_answer, head_answer}
 use Rattle.lent.proofs.dense_peak.Statement.{statement}
 use Rattle.lent.proofs.dense_peak.Tie as tie
 
 -- within 1 to 62 the dimension of max_k decides, and so the length that was told
-decided : (h : Head) (asked told : ActiveLength) → 1 ≤ h.ceiling → h.ceiling ≤ 62 → dimensionOf asked ≡ dimension h.ceiling h.max_k → asked ≡ told
-    → peakAnswer (dimensionOf told) ≡ headAnswer h
+decided : (h : Head) (asked told : ActiveLength) → 1 ≤ h.ceiling → h.ceiling ≤ 62 → dimension_of asked ≡ dimension h.ceiling h.max_k → asked ≡ told
+    → peak_answer (dimension_of told) ≡ head_answer h
 decided h asked told least most given same =
-    let within : headAnswer h ≡ peakAnswer (dimension h.ceiling h.max_k) = simp (le-ltb _ _ least, le-ltb _ _ most) in
-    ap (λ (a : ActiveLength). peakAnswer (dimensionOf a)) (sym same) ∙ ap peakAnswer given ∙ sym within
+    let within : head_answer h ≡ peak_answer (dimension h.ceiling h.max_k) = simp (le-ltb _ _ least, le-ltb _ _ most) in
+    ap (λ (a : ActiveLength). peak_answer (dimension_of a)) (sym same) ∙ ap peak_answer given ∙ sym within
 
 returns : tie.Need-returns
 returns c = simp (lt-ltb _ _ c.if1.true)

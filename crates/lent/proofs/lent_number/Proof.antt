@@ -1,4 +1,4 @@
--- `lent_number` meets its contract: each return has shown by the tests before it which case of `lentNumber` holds.
+-- `lent_number` meets its contract: each return has shown by the tests before it which case of `lent_number` holds.
 use Rattle.std.proofs.Common.{le-ltb, lt-ltb, eq-eqb, ne_eqb}
 use Rattle.lent.proofs.lent_number.Statement.{statement}
 use Rattle.lent.proofs.lent_number.Tie as tie

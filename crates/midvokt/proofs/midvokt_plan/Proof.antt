@@ -4,7 +4,7 @@ use mathlib.Core.Path.{ap, ◌∙◌}
 use lib.ListN.{length}
 use borrow.Author.Rules.{rules}
 use Rattle.answer.specs.Outcome.{Outcome}
-use Rattle.midvokt.specs.Reply.{number_of, words_of, laidOut}
+use Rattle.midvokt.specs.Reply.{number_of, words_of, laid_out}
 use Rattle.midvokt.proofs.midvokt_plan.Statement.{statement}
 use Rattle.midvokt.proofs.midvokt_plan.Tie as tie
 
@@ -46,7 +46,7 @@ returns c =
     let lent = c.before.before.before.before.before.before.before.before.before.before.before.before.before.before.before.before.before.before.before.before.before.before.before.before.before.before.before.before.before.before.before.before.before.before.before.before.args.res in
     let planned = c.before.before.before.before.before.before.before.before.before.before.before.before.before.before.before.before.before.before.before.build-active-component-plan.ensures in record {
       number = c.reply-number.ensures ∙ ap number_of planned.answer;
-      result = c.before.before.before.write-result.ensures ∙ ap (λ (o : Outcome). laidOut (length lent.now) (words_of o)) planned.answer;
+      result = c.before.before.before.write-result.ensures ∙ ap (λ (o : Outcome). laid_out (length lent.now) (words_of o)) planned.answer;
       held = planned.held;
     }
 

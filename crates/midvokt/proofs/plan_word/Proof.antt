@@ -5,9 +5,9 @@ use Prim.Native.Nat.{ℕ, zero, suc, ◌-◌, ◌≤◌, ◌<◌}
 use native.Mathlib.Omega.{arith}
 use lib.ListN.{get_or}
 use borrow.Author.Rules.{rules}
-use Rattle.definition.specs.WholeWorks.{wholeWords}
-use Rattle.tally.specs.Tally.{worksOf}
-use Rattle.answer.specs.Outcome.{outcomeOf}
+use Rattle.definition.specs.WholeWorks.{whole_words}
+use Rattle.tally.specs.Tally.{works_of}
+use Rattle.answer.specs.Outcome.{outcome_of}
 use Rattle.answer.specs.declared.ActiveComponentPlan.{ActiveComponentPlan}
 use Rattle.answer.specs.declared.Planned.TheVariants as P
 use Rattle.midvokt.specs.Reply.{words_of}
@@ -15,14 +15,14 @@ use Rattle.midvokt.proofs.plan_word.Statement.{statement}
 use Rattle.midvokt.proofs.plan_word.Tie as tie
 
 -- from word 9 on
-after-nine : (p : ActiveComponentPlan) (i : ℕ) → 9 ≤ i → get_or (wholeWords (worksOf p.whole_works)) (i - 9) 0 ≡ get_or (words_of (outcomeOf (P.Plan p))) i 0
-after-nine p i h = ap (λ (n : ℕ). get_or (words_of (outcomeOf (P.Plan p))) n 0) (back i h)
+after_nine : (p : ActiveComponentPlan) (i : ℕ) → 9 ≤ i → get_or (whole_words (works_of p.whole_works)) (i - 9) 0 ≡ get_or (words_of (outcome_of (P.Plan p))) i 0
+after_nine p i h = ap (λ (n : ℕ). get_or (words_of (outcome_of (P.Plan p))) n 0) (back i h)
   where
     back : (n : ℕ) → 9 ≤ n → suc (suc (suc (suc (suc (suc (suc (suc (suc (n - 9))))))))) ≡ n
     back n k = omega arith
 
 -- below 9 only word 0 has no arm of its own
-first_word : (p : ActiveComponentPlan) (i : ℕ) → i < 9 → (0 < i → 9 ≤ i) → 0 ≡ get_or (words_of (outcomeOf (P.Plan p))) i 0
+first_word : (p : ActiveComponentPlan) (i : ℕ) → i < 9 → (0 < i → 9 ≤ i) → 0 ≡ get_or (words_of (outcome_of (P.Plan p))) i 0
 first_word p zero small far = refl
 first_word p (suc i) small far = let h = far (omega arith) in absurd (omega arith)
 
@@ -74,7 +74,7 @@ returns-9 c = rw c.match.keys8 refl
 returns-10 : tie.Need-returns-10
 returns-10 c =
     let a = c.before.before.before.args in
-    c.whole_word.ensures ∙ after-nine a.plan a.i (omega arith)
+    c.whole_word.ensures ∙ after_nine a.plan a.i (omega arith)
 
 pub plan-word-spec : {M : Type 1} → statement M
 plan-word-spec =

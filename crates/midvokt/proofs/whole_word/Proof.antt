@@ -28,8 +28,8 @@ after_two a b (suc (suc (suc (suc zero)))) h = refl
 after_two a b (suc (suc (suc (suc (suc i))))) h = refl
 
 -- behind all five
-after-five : (a b c d e i : ℕ) → 5 ≤ i → 0 ≡ get_or (a ∷ b ∷ c ∷ d ∷ e ∷ []) i 0
-after-five a b c d e i h = sym (get_or-eq_default (a ∷ b ∷ c ∷ d ∷ e ∷ []) 0 {n = i} h)
+after_five : (a b c d e i : ℕ) → 5 ≤ i → 0 ≡ get_or (a ∷ b ∷ c ∷ d ∷ e ∷ []) i 0
+after_five a b c d e i h = sym (get_or-eq_default (a ∷ b ∷ c ∷ d ∷ e ∷ []) 0 {n = i} h)
 
 enum_told : tie.Need-enum-told
 enum_told c = search rules
@@ -74,7 +74,7 @@ returns-10 : tie.Need-returns-10
 returns-10 c =
     let i = c.before.before.before.before.args.i in
     let r = c.match3.rest in
-    rw c.before.before.works2.given.1 (after-five _ _ _ _ _ i (omega (arith, r)))
+    rw c.before.before.works2.given.1 (after_five _ _ _ _ _ i (omega (arith, r)))
 
 pub whole-word-spec : {M : Type 1} → statement M
 whole-word-spec =

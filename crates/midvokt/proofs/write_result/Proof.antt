@@ -4,15 +4,15 @@ use mathlib.Core.Path.{sym, subst}
 use Prim.Native.Nat.{ℕ, suc, ◌-◌, ◌≤◌}
 use native.Mathlib.Omega.{arith}
 use lib.ListN.{length, get_or, set}
-use Rattle.definition.proofs.Filled.{Filled, filled_none, filled_next, filled-all}
-use Rattle.answer.specs.Outcome.{outcomeOf}
+use Rattle.definition.proofs.Filled.{Filled, filled_none, filled_next, filled_all}
+use Rattle.answer.specs.Outcome.{outcome_of}
 use Rattle.midvokt.specs.Reply.{words_of}
 use borrow.Author.Rules.{rules}
 use Rattle.midvokt.proofs.write_result.Statement.{statement}
 use Rattle.midvokt.proofs.write_result.Tie as tie
 
 abbrev invariant-loop : tie.invariant-loop
-invariant-loop planned result₀ i₀ result i = (i ≤ length result₀) × Filled (λ (j : ℕ). get_or (words_of (outcomeOf planned)) j 0) (length result₀) i result
+invariant-loop planned result₀ i₀ result i = (i ≤ length result₀) × Filled (λ (j : ℕ). get_or (words_of (outcome_of planned)) j 0) (length result₀) i result
 
 abbrev decreases-loop : tie.decreases-loop
 decreases-loop planned result₀ i₀ result i = length result₀ - i
@@ -37,14 +37,14 @@ loop-less c = search rules
 
 loop-again : tie.Need-loop-preserved invariant-loop decreases-loop
 loop-again c =
-    let at-loop = c.before.before in
-    let a = at-loop.before.before.args in
-    let i = at-loop.loop.i in
-    let word : ℕ → ℕ = λ j. get_or (words_of (outcomeOf a.planned)) j 0 in (
+    let at_loop = c.before.before in
+    let a = at_loop.before.before.args in
+    let i = at_loop.loop.i in
+    let word : ℕ → ℕ = λ j. get_or (words_of (outcome_of a.planned)) j 0 in (
       omega arith,
-      subst (λ (k : ℕ). Filled word (length a.result.now) k (set at-loop.loop.result i c.result-word.result)) (omega arith)
-          (subst (λ (y : ℕ). Filled word (length a.result.now) (suc i) (set at-loop.loop.result i y)) (sym c.result-word.ensures)
-          (filled_next word (length a.result.now) i at-loop.loop.result (omega arith) at-loop.loop.invariant.1)),
+      subst (λ (k : ℕ). Filled word (length a.result.now) k (set at_loop.loop.result i c.result-word.result)) (omega arith)
+          (subst (λ (y : ℕ). Filled word (length a.result.now) (suc i) (set at_loop.loop.result i y)) (sym c.result-word.ensures)
+          (filled_next word (length a.result.now) i at_loop.loop.result (omega arith) at_loop.loop.invariant.1)),
     )
 
 same_length : tie.Need-same-length invariant-loop decreases-loop
@@ -52,11 +52,11 @@ same_length c = search rules
 
 returns : tie.Need-returns invariant-loop decreases-loop
 returns c =
-    let at-loop = c.before in
-    let a = at-loop.before.before.args in
-    let word : ℕ → ℕ = λ j. get_or (words_of (outcomeOf a.planned)) j 0 in
-    filled-all word (length a.result.now) at-loop.loop.result
-    (subst (λ (k : ℕ). Filled word (length a.result.now) k at-loop.loop.result) (omega arith) at-loop.loop.invariant.1)
+    let at_loop = c.before in
+    let a = at_loop.before.before.args in
+    let word : ℕ → ℕ = λ j. get_or (words_of (outcome_of a.planned)) j 0 in
+    filled_all word (length a.result.now) at_loop.loop.result
+    (subst (λ (k : ℕ). Filled word (length a.result.now) k at_loop.loop.result) (omega arith) at_loop.loop.invariant.1)
 
 pub write-result-spec : {M : Type 1} → statement M
 write-result-spec =

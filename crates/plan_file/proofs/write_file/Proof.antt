@@ -7,9 +7,9 @@ use lib.ListN.{length, take, replicate}
 use Rattle.definition.specs.Plan.{padded}
 use Rattle.outputs.specs.Buffers.{patch}
 use Rattle.file_words.specs.Words.{word_bytes}
-use Rattle.stored_plan.specs.Stored.{Kept, sectionsOf, trailerOf}
-use Rattle.plan_file.specs.Writing.{scalarsIn}
-use Rattle.plan_file.proofs.Writing.{none_written, section-written, rest-cleared, trailer-is, words-written}
+use Rattle.stored_plan.specs.Stored.{Kept, sections_of, trailer_of}
+use Rattle.plan_file.specs.Writing.{scalars_in}
+use Rattle.plan_file.proofs.Writing.{none_written, section_written, rest_cleared, trailer_is, words_written}
 use borrow.Author.Rules.{rules}
 use Rattle.plan_file.proofs.write_file.Statement.{statement}
 use Rattle.plan_file.proofs.write_file.Tie as tie
@@ -79,7 +79,7 @@ add-put-words c =
 put-words-requires-8 : tie.Need-put-words-requires-8
 put-words-requires-8 c κs =
     let start = c.before.before.before.before.before.before.before.before.before.before.before.before.before.before.before.before.before.before.before.before.before.before.before.before.before.before.before.before.before.before.before.before.before.before.before.before.before.before.before.before in
-    let long = ap length c.before.before.trailer-words.ensures in
+    let long = ap length c.before.before.trailer_words.ensures in
     omega (arith, long, start, c.before.before.before.before.before.before.before.before.before.before.before.before.before.before.before.before.before.before.before.before.before.before.before.before.before.before.before.before.before.before.before.put-words.auto.1.0, c.before.before.before.before.before.before.before.before.before.before.before.before.before.before.before.before.before.before.before.before.before.before.before.before.before.before.before.put-words2.auto.1.0, c.before.before.before.before.before.before.before.before.before.before.before.before.before.before.before.before.before.before.before.before.before.before.before.put-words3.auto.1.0, c.before.before.before.before.before.before.before.before.before.before.before.before.before.before.before.before.before.before.before.put-words4.auto.1.0, c.before.before.before.before.before.before.before.before.before.before.before.before.before.before.before.put-words5.auto.1.0, c.before.before.before.before.before.before.before.before.before.before.before.put-words6.auto.1.0, c.before.before.before.before.before.put-words7.auto.1.0)
 
 add-clear-bytes : tie.Need-overflow-add-clear-bytes
@@ -103,28 +103,28 @@ returns c =
     let start = c.before.before.before.before.before.before.before.before.before.before.before.before.before.before.before.before.before.before.before.before.before.before.before.before.before.before.before.before.before.before.before.before.before.before.before.before.before.before.before.before.before.before.before.before.before.before.before in
     let a = start.args in
     let file = a.file.now in
-    let k : Kept = record { steps = a.steps.now; merges = a.merges.now; sizes = a.sizes.now; rotations = a.rotations.now; promotions = a.promotions.now; measurements = a.measurements.now; scalars = scalarsIn a.plan } in
+    let k : Kept = record { steps = a.steps.now; merges = a.merges.now; sizes = a.sizes.now; rotations = a.rotations.now; promotions = a.promotions.now; measurements = a.measurements.now; scalars = scalars_in a.plan } in
     let room = start.requires in
-    let scalars = c.before.before.before.before.before.before.before.before.before.before.before.before.before.before.before.scalar-words.ensures in
-    let trailer = c.before.before.before.before.before.before.before.before.before.trailer-words.ensures in
-    let one = section-written a.steps.now c.before.before.before.before.before.before.before.before.before.before.before.before.before.before.before.before.before.before.before.before.before.before.before.before.before.before.before.before.before.before.before.before.before.before.before.before.before.before.put-words.new.1.0 (none_written file) (omega (arith, room)) c.before.before.before.before.before.before.before.before.before.before.before.before.before.before.before.before.before.before.before.before.before.before.before.before.before.before.before.before.before.before.before.before.before.before.before.before.before.before.put-words.ensures in
-    let two = section-written a.merges.now c.before.before.before.before.before.before.before.before.before.before.before.before.before.before.before.before.before.before.before.before.before.before.before.before.before.before.before.before.before.before.before.before.before.before.put-words2.new.1.0 one (omega (arith, room)) c.before.before.before.before.before.before.before.before.before.before.before.before.before.before.before.before.before.before.before.before.before.before.before.before.before.before.before.before.before.before.before.before.before.before.put-words2.ensures in
-    let three = section-written a.sizes.now c.before.before.before.before.before.before.before.before.before.before.before.before.before.before.before.before.before.before.before.before.before.before.before.before.before.before.before.before.before.before.put-words3.new.1.0 two (omega (arith, room)) c.before.before.before.before.before.before.before.before.before.before.before.before.before.before.before.before.before.before.before.before.before.before.before.before.before.before.before.before.before.before.put-words3.ensures in
-    let four = section-written a.rotations.now c.before.before.before.before.before.before.before.before.before.before.before.before.before.before.before.before.before.before.before.before.before.before.before.before.before.before.put-words4.new.1.0 three (omega (arith, room)) c.before.before.before.before.before.before.before.before.before.before.before.before.before.before.before.before.before.before.before.before.before.before.before.before.before.before.put-words4.ensures in
-    let five = section-written a.promotions.now c.before.before.before.before.before.before.before.before.before.before.before.before.before.before.before.before.before.before.before.before.before.before.put-words5.new.1.0 four (omega (arith, room)) c.before.before.before.before.before.before.before.before.before.before.before.before.before.before.before.before.before.before.before.before.before.before.put-words5.ensures in
-    let six = section-written a.measurements.now c.before.before.before.before.before.before.before.before.before.before.before.before.before.before.before.before.before.before.put-words6.new.1.0 five (omega (arith, room)) c.before.before.before.before.before.before.before.before.before.before.before.before.before.before.before.before.before.before.put-words6.ensures in
+    let scalars = c.before.before.before.before.before.before.before.before.before.before.before.before.before.before.before.scalar_words_lem.ensures in
+    let trailer = c.before.before.before.before.before.before.before.before.before.trailer_words.ensures in
+    let one = section_written a.steps.now c.before.before.before.before.before.before.before.before.before.before.before.before.before.before.before.before.before.before.before.before.before.before.before.before.before.before.before.before.before.before.before.before.before.before.before.before.before.before.put-words.new.1.0 (none_written file) (omega (arith, room)) c.before.before.before.before.before.before.before.before.before.before.before.before.before.before.before.before.before.before.before.before.before.before.before.before.before.before.before.before.before.before.before.before.before.before.before.before.before.before.put-words.ensures in
+    let two = section_written a.merges.now c.before.before.before.before.before.before.before.before.before.before.before.before.before.before.before.before.before.before.before.before.before.before.before.before.before.before.before.before.before.before.before.before.before.before.put-words2.new.1.0 one (omega (arith, room)) c.before.before.before.before.before.before.before.before.before.before.before.before.before.before.before.before.before.before.before.before.before.before.before.before.before.before.before.before.before.before.before.before.before.before.put-words2.ensures in
+    let three = section_written a.sizes.now c.before.before.before.before.before.before.before.before.before.before.before.before.before.before.before.before.before.before.before.before.before.before.before.before.before.before.before.before.before.before.put-words3.new.1.0 two (omega (arith, room)) c.before.before.before.before.before.before.before.before.before.before.before.before.before.before.before.before.before.before.before.before.before.before.before.before.before.before.before.before.before.before.put-words3.ensures in
+    let four = section_written a.rotations.now c.before.before.before.before.before.before.before.before.before.before.before.before.before.before.before.before.before.before.before.before.before.before.before.before.before.before.put-words4.new.1.0 three (omega (arith, room)) c.before.before.before.before.before.before.before.before.before.before.before.before.before.before.before.before.before.before.before.before.before.before.before.before.before.before.put-words4.ensures in
+    let five = section_written a.promotions.now c.before.before.before.before.before.before.before.before.before.before.before.before.before.before.before.before.before.before.before.before.before.before.put-words5.new.1.0 four (omega (arith, room)) c.before.before.before.before.before.before.before.before.before.before.before.before.before.before.before.before.before.before.before.before.before.before.put-words5.ensures in
+    let six = section_written a.measurements.now c.before.before.before.before.before.before.before.before.before.before.before.before.before.before.before.before.before.before.put-words6.new.1.0 five (omega (arith, room)) c.before.before.before.before.before.before.before.before.before.before.before.before.before.before.before.before.before.before.put-words6.ensures in
     let at = 0 + length a.steps.now + length a.merges.now + length a.sizes.now + length a.rotations.now + length a.promotions.now + length a.measurements.now in
     let seven =
-    section-written (scalarsIn a.plan) c.before.before.before.before.before.before.before.before.before.before.before.before.put-words7.new.1.0 six (omega (arith, room))
+    section_written (scalars_in a.plan) c.before.before.before.before.before.before.before.before.before.before.before.before.put-words7.new.1.0 six (omega (arith, room))
     (c.before.before.before.before.before.before.before.before.before.before.before.before.put-words7.ensures ∙ ap (λ (l : List ℕ). patch (8 * at) (word_bytes l) c.before.before.before.before.before.before.before.before.before.before.before.before.before.before.before.before.before.before.put-words6.new.1.0) scalars) in
     let eight =
-    section-written (trailerOf (sectionsOf k)) c.before.before.before.before.before.before.put-words8.new.1.0 seven (omega (arith, room))
-    (c.before.before.before.before.before.before.put-words8.ensures ∙ ap (λ (l : List ℕ). patch (8 * (at + 8)) (word_bytes l) c.before.before.before.before.before.before.before.before.before.before.before.before.put-words7.new.1.0) (trailer ∙ trailer-is k refl)) in
+    section_written (trailer_of (sections_of k)) c.before.before.before.before.before.before.put-words8.new.1.0 seven (omega (arith, room))
+    (c.before.before.before.before.before.before.put-words8.ensures ∙ ap (λ (l : List ℕ). patch (8 * (at + 8)) (word_bytes l) c.before.before.before.before.before.before.before.before.before.before.before.before.put-words7.new.1.0) (trailer ∙ trailer_is k refl)) in
     let end : at + 24 ≡ at + 8 + 16 = omega arith in
     let filled = c.before.before.before.before.before.before.put-words8.new.1.0 in
-    rest-cleared c.before.before.clear-bytes.new.0 eight
+    rest_cleared c.before.before.clear-bytes.new.0 eight
     (c.before.before.clear-bytes.ensures ∙ ap (λ (n : ℕ). take (8 * n) filled ++ replicate (length filled - 8 * n) 0) end)
-    ∙ ap (λ (l : List ℕ). padded (length file) (word_bytes l)) (words-written k)
+    ∙ ap (λ (l : List ℕ). padded (length file) (word_bytes l)) (words_written k)
 
 pub write-file-spec : {M : Type 1} → statement M
 write-file-spec =

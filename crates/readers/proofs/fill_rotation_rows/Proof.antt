@@ -49,15 +49,15 @@ use denote.Triple.Spec.{Meets, triple_of}
 use denote.Triple.Table.{entered, cited}
 use denote.Triple.Clauses.{ensured, lasts}
 use denote.Triple.Walked.{says, Stays, stay_none_slice, stay_slice, walk_of, ends_at, walked, Goes-none_slice, Goes-slice, walk_Meets}
-use Rattle.definition.proofs.Filled.{Filled, filled_none, filled_next, filled-all}
-use Rattle.readers.specs.Reading.{rotationOrZero, filledRows}
+use Rattle.definition.proofs.Filled.{Filled, filled_none, filled_next, filled_all}
+use Rattle.readers.specs.Reading.{rotation_or_zero, filled_rows}
 use Rattle.readers.specs.declared.RotationRow.{RotationRow}
 use Rattle.readers.specs.contracts.RotationRow as T
 use Rattle.readers.proofs.RotationRow.TheLaws as T'
 use Rattle.readers.specs.contracts.rotation_or_zero as one
 use Rattle.readers.proofs.rotation_or_zero.Symbol as one_def
 use Rattle.readers.proofs.rotation_or_zero.Symbol.{name as #one}
-use Rattle.readers.proofs.rotation_or_zero.Met as one-thm
+use Rattle.readers.proofs.rotation_or_zero.Met as one_thm
 use Rattle.readers.specs.contracts.fill_rotation_rows.Key.{name as #fill}
 use Rattle.readers.specs.contracts.fill_rotation_rows as fill
 use Rattle.readers.proofs.fill_rotation_rows.Statement as stated
@@ -121,7 +121,7 @@ module _ {M : Type 1} {𝓤 : Ura M} (𝓛 : Logic 𝓤) (mem' : Memory → SPro
   Own₀ = (ShrSlice (named 0) κ₀ u64).own_val x₀ (v₀ ∷ [])
 
   -- at exit the slice holds ys
-  exits : (ys : List RotationRow) → length ys ≡ n → ys ≡ filledRows n ws → Room S n
+  exits : (ys : List RotationRow) → length ys ≡ n → ys ≡ filled_rows n ws → Room S n
       → ent 𝓤 (⋆ 𝓛 (‵ (fobs γ ((coded_holeys S).code (heres S ys))) ∷ ‵ (fbor κ₁ (Held S (length ys) b o γ)) ∷ ‵ (flft κ₁ q₁) ∷ ‵ (flft κ₀ q₀) ∷ ‵ Own₀ ∷ []))
       (Post vunit)
   exits ys e is g =
@@ -153,8 +153,8 @@ module _ {M : Type 1} {𝓤 : Ura M} (𝓛 : Logic 𝓤) (mem' : Memory → SPro
       nothing ! $ move ! (3 ∷ 0 ∷ []) $ join ! $ use2 𝓛 (raw ((One 𝓛 mem' run).pre (to i))) (onto i) $ frame ! $ done !
 
   -- of what the callee ensures, the clause alone
-  said : (i : ℕ) (r : RotationRow) → ent 𝓤 (ensured 𝓛 one.ended (one.clauses 𝓛 mem' run) (κ₀, tt) (x₀, (i, tt)) tt r) (fact 𝓤 (r ≡ rotationOrZero ws i))
-  said i r = ex_e 𝓤 _ (λ us. snd∗ 𝓤 (sem 𝓛 (lasts one.ended (κ₀, tt) (x₀, (i, tt)) us)) (fact 𝓤 (r ≡ rotationOrZero ws i)))
+  said : (i : ℕ) (r : RotationRow) → ent 𝓤 (ensured 𝓛 one.ended (one.clauses 𝓛 mem' run) (κ₀, tt) (x₀, (i, tt)) tt r) (fact 𝓤 (r ≡ rotation_or_zero ws i))
+  said i r = ex_e 𝓤 _ (λ us. snd∗ 𝓤 (sem 𝓛 (lasts one.ended (κ₀, tt) (x₀, (i, tt)) us)) (fact 𝓤 (r ≡ rotation_or_zero ws i)))
 
   module _ (𝓣 : Tables 𝓤 H) (known : Triple 𝓤 (𝓣.C #one) (One 𝓛 mem' run)) (g₀ : Room u64 (length ws)) (g : Room S n) (l₀ l₁ l₂ l₃ l₄ l₅ l₆ l₇ : ℕ) where
     abbrev C : Calls 𝓤 H
@@ -182,7 +182,7 @@ module _ {M : Type 1} {𝓤 : Ura M} (𝓛 : Logic 𝓤) (mem' : Memory → SPro
 
     -- a turn that fills the i-th struct
     more : (i : ℕ) (ys : List RotationRow) (X : SProp 𝓤) → i < n → length ys ≡ n
-        → ent 𝓤 (⋆ 𝓛 (At (suc i) (set ys i (rotationOrZero ws i)))) X → ent 𝓤 (⋆ 𝓛 (At i ys)) (Wp 𝓤 H C Λ En mir'.turn-1 (after_turn 𝓤 H X Left))
+        → ent 𝓤 (⋆ 𝓛 (At (suc i) (set ys i (rotation_or_zero ws i)))) X → ent 𝓤 (⋆ 𝓛 (At i ys)) (Wp 𝓤 H C Λ En mir'.turn-1 (after_turn 𝓤 H X Left))
     unfolding after_turn
     more i ys X small e k =
         qed 𝓛 (At i ys) ∵ exec ! C Λ En mir'.turn-1 (any_q (after_turn 𝓤 H X Left)) $
@@ -194,14 +194,14 @@ module _ {M : Type 1} {𝓤 : Ura M} (𝓛 : Logic 𝓤) (mem' : Memory → SPro
         -- [what the callee asks; what the words own; the structs; _3; _4; _5; room for _6; room for _7; _1; _2; …]
         calls_at ! (fm_of 𝓤 H 𝓛.laws 𝓣) (One 𝓛 mem' run) known (to i) (and_then ! (load ! (from ! (stop !)) (look ! 8 refl)) (and_then ! (load ! (from ! (stop !)) (look ! 3 refl)) (no_more !))) (λ u.
         use1 𝓛 (later (some (λ (r : RotationRow). ((‵ (flft κ₀ q₀) ⊛ ‵ ftrue) ⊛ ‵ (S.own_val r (u ∷ []))) ⊛ raw (ensured 𝓛 one.ended (one.clauses 𝓛 mem' run) (κ₀, tt) (x₀, (i, tt)) tt r)))) (id⊢ 𝓤 _) $ await ! tt $ pick ! (λ r.
-        split ! $ move ! (1 ∷ []) $ use1 𝓛 (raw (fact 𝓤 (r ≡ rotationOrZero ws i))) (said i r) $ heard ! (r ≡ rotationOrZero ws i) (λ is. split ! $ split ! $ move ! (1 ∷ []) $ drop ! $ move ! (1 ∷ []) $
+        split ! $ move ! (1 ∷ []) $ use1 𝓛 (raw (fact 𝓤 (r ≡ rotation_or_zero ws i))) (said i r) $ heard ! (r ≡ rotation_or_zero ws i) (λ is. split ! $ split ! $ move ! (1 ∷ []) $ drop ! $ move ! (1 ∷ []) $
         -- [the struct; the token; what the words own; the structs; _3; _4; _5; room for _6; room for _7; _1; _2; …]
         peeks ! S (Is S) (shows 𝓛 S) r (u ∷ []) (λ typed.
         land ! (from ! (stop !)) (init ! 7 refl ((LL.lawful T.the_type T'.the_laws 𝓛).typed r _ typed).0) $
         assigns ! (bin ! (load ! (from ! (stop !)) (look ! 4 refl)) (lit ! tt) (record { fits = product })) (from ! (stop !)) (store ! 5 refl (tt, record { fits = product })) $
         assigns ! (bin ! (load ! (from ! (fld ! refl (stop !))) (look_in ! 10 (sub ! 0 refl (whole !)))) (load ! (from ! (stop !)) (look ! 5 refl)) tt) (from ! (stop !)) (init ! 8 refl (tt, tt)) $
         rewrite ! 8 (λ (p : ℕ). ‵ (fat full_share ty_ptr l₇ 0 (vptr b p))) (sym (place_is (mem S).size o i)) refl $
-        move ! (3 ∷ []) $ elem_out ! S (Is S) (shows 𝓛 S) (LL.vals T.the_type T'.the_laws) (LL.tells T.the_type T'.the_laws) full_share ys i (rotationOrZero ws i) b o inside (λ _.
+        move ! (3 ∷ []) $ elem_out ! S (Is S) (shows 𝓛 S) (LL.vals T.the_type T'.the_laws) (LL.tells T.the_type T'.the_laws) full_share ys i (rotation_or_zero ws i) b o inside (λ _.
         -- [the i-th struct's cell; what it owns; the others; the struct; the token; what the words own; _3; _4; _5; _6; _7; _1; _2; …]
         assigns ! (of_opd ! (load ! (from ! (stop !)) (look ! 9 refl))) (from ! (hop ! (look ! 10 refl) (stop !))) (store_raw ! 0 refl ((LL.lawful T.the_type T'.the_laws 𝓛).typed r _ typed).0) $
         move ! (1 ∷ []) $ drop ! $ move ! (0 ∷ 2 ∷ 1 ∷ []) $ elem_put ! S full_share ys i r (u ∷ []) b o inside $
@@ -226,7 +226,7 @@ module _ {M : Type 1} {𝓤 : Ura M} (𝓛 : Logic 𝓤) (mem' : Memory → SPro
         one_more = omega arith
 
     -- the turn that leaves the loop, and the rest of the body: the borrow is closed at what is filled
-    ends : (ys : List RotationRow) (X : SProp 𝓤) → length ys ≡ n → ys ≡ filledRows n ws → ent 𝓤 (⋆ 𝓛 (At n ys)) (Wp 𝓤 H C Λ En mir'.turn-1 (after_turn 𝓤 H X Left))
+    ends : (ys : List RotationRow) (X : SProp 𝓤) → length ys ≡ n → ys ≡ filled_rows n ws → ent 𝓤 (⋆ 𝓛 (At n ys)) (Wp 𝓤 H C Λ En mir'.turn-1 (after_turn 𝓤 H X Left))
     unfolding after_turn
     ends ys X e is =
         qed 𝓛 (At n ys) ∵ exec ! C Λ En mir'.turn-1 (any_q (after_turn 𝓤 H X Left)) $
@@ -245,7 +245,7 @@ module _ {M : Type 1} {𝓤 : Ura M} (𝓛 : Logic 𝓤) (mem' : Memory → SPro
 
     -- t structs are left
     abbrev Facts : ℕ → ℕ → List RotationRow → Type 0
-    Facts t i ys = (i + t ≡ n) × Filled (rotationOrZero ws) n i ys
+    Facts t i ys = (i + t ≡ n) × Filled (rotation_or_zero ws) n i ys
 
     abbrev Inv : ℕ → SProp 𝓤
     Inv t = ex 𝓤 (λ (i : ℕ). ex 𝓤 (λ (ys : List RotationRow). guard 𝓤 (Facts t i ys) (⋆ 𝓛 (At i ys))))
@@ -268,17 +268,17 @@ module _ {M : Type 1} {𝓤 : Ura M} (𝓛 : Logic 𝓤) (mem' : Memory → SPro
     turn_at zero i ys f =
         let is : i ≡ n = let h = f.0 in omega arith in
         subst (λ (k : ℕ). ent 𝓤 (⋆ 𝓛 (At k ys)) (Wp 𝓤 H C Λ En mir'.turn-1 (after_turn 𝓤 H (Below zero) Left))) (sym is)
-        (ends ys (Below zero) f.1.0 (filled-all (rotationOrZero ws) n ys (subst (λ (k : ℕ). Filled (rotationOrZero ws) n k ys) is f.1)))
+        (ends ys (Below zero) f.1.0 (filled_all (rotation_or_zero ws) n ys (subst (λ (k : ℕ). Filled (rotation_or_zero ws) n k ys) is f.1)))
     turn_at (suc t) i ys f =
         let small : i < n = let h = f.0 in omega arith in
-        more i ys (Below (suc t)) small f.1.0 (below t (suc i) (set ys i (rotationOrZero ws i)) (let h = f.0 in omega arith, filled_next (rotationOrZero ws) n i ys small f.1))
+        more i ys (Below (suc t)) small f.1.0 (below t (suc i) (set ys i (rotation_or_zero ws i)) (let h = f.0 in omega arith, filled_next (rotation_or_zero ws) n i ys small f.1))
 
     turns : (t : ℕ) → ent 𝓤 (Inv t) (Wp 𝓤 H C Λ En mir'.turn-1 (after_turn 𝓤 H (Below t) Left))
     turns t = ex_e 𝓤 (λ (i : ℕ). ex 𝓤 (λ (ys : List RotationRow). guard 𝓤 (Facts t i ys) (⋆ 𝓛 (At i ys)))) (λ i.
         ex_e 𝓤 (λ (ys : List RotationRow). guard 𝓤 (Facts t i ys) (⋆ 𝓛 (At i ys))) (λ ys. guard_e 𝓤 (Facts t i ys) (⋆ 𝓛 (At i ys)) (λ f. turn_at t i ys f)))
 
     loops : ent 𝓤 (⋆ 𝓛 (At 0 xs)) (Wp 𝓤 H C Λ En (loop mir'.turn-1) Left)
-    loops = via 𝓤 (Inv n) (holds_at n 0 xs (zero-add n, filled_none (rotationOrZero ws) xs)) (loop_rule 𝓤 H 𝓛.laws 𝓣 ◌<◌ lt-wf_rel.wf En mir'.turn-1 Left Inv turns n)
+    loops = via 𝓤 (Inv n) (holds_at n 0 xs (zero-add n, filled_none (rotation_or_zero ws) xs)) (loop_rule 𝓤 H 𝓛.laws 𝓣 ◌<◌ lt-wf_rel.wf En mir'.turn-1 Left Inv turns n)
 
   -- the MIR up to the loop: the borrow is opened once
   walk : (𝓣 : Tables 𝓤 H) → Triple 𝓤 (𝓣.C #one) (One 𝓛 mem' run) → Room u64 (length ws) → Room S n
@@ -306,10 +306,10 @@ fill_meets {𝓤 = 𝓤} 𝓛 mem' run 𝓣 known =
     (λ κs qs bounds a g are. via 𝓤 _ (fst∗ 𝓤 _ (emp 𝓤))
     (walk 𝓛 mem' run κs.0 κs.1.0 qs.0 qs.1.0 a.0 a.1.0.ref_ptr.0 a.1.0.ref_ptr.1 a.1.0.ghost_name a.1.0.now 𝓣 known are.0.0.1 are.1.0.0.1)))
 
-pub fill-rotation-rows-spec : {M : Type 1} → stated.statement M
+pub fill_rotation_rows_spec : {M : Type 1} → stated.statement M
 unfolding code.routine tables_of
-fill-rotation-rows-spec 𝓤 𝓛 𝓜 𝓡 =
+fill_rotation_rows_spec 𝓤 𝓛 𝓜 𝓡 =
     entered 𝓤 𝓛.H (triple_of 𝓛 fill.signature (fill.spec 𝓛 𝓜.mem 𝓡.run))
     (tables 𝓤 𝓛.H 𝓜 𝓡 code.env).C (tables 𝓤 𝓛.H 𝓜 𝓡 code.env).Λ #fill code.function (code.unfolded 𝓤 𝓛.H 𝓜 𝓡)
     (fill_meets 𝓛 𝓜.mem 𝓡.run (tables_of 𝓤 𝓛.H 𝓜 (tables 𝓤 𝓛.H 𝓜 𝓡 code.env))
-    (cited 𝓤 𝓛.H (One 𝓛 𝓜.mem 𝓡.run) 𝓜 𝓡 code.env #one one_def.routine code.calls-readers::rotation-or-zero (one-thm.met 𝓤 𝓛 𝓜 𝓡)))
+    (cited 𝓤 𝓛.H (One 𝓛 𝓜.mem 𝓡.run) 𝓜 𝓡 code.env #one one_def.routine code.calls-readers::rotation-or-zero (one_thm.met 𝓤 𝓛 𝓜 𝓡)))

@@ -1,6 +1,6 @@
 -- `readers::measurement_of` meets its contract: each field is the word of its place, or what the callees read there.
 -- Assumes nothing.
-use Rattle.readers.specs.Reading.{measurementIn}
+use Rattle.readers.specs.Reading.{measurement_in}
 use borrow.Author.Rules.{rules}
 use Rattle.readers.proofs.measurement_of.Statement.{statement}
 use Rattle.readers.proofs.measurement_of.Tie as tie
@@ -51,7 +51,7 @@ flag-of-requires-2 : tie.Need-flag-of-requires-2
 flag-of-requires-2 c κs = search rules
 
 returns : tie.Need-returns
-unfolding measurementIn
+unfolding measurement_in
 returns c =
     let pair = c.before.before.before.before.before in
     let flag = pair.before.before.before.before.before.before in

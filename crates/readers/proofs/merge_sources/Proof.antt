@@ -3,7 +3,7 @@
 use mathlib.Core.Path.{◌≡◌, sym}
 use Prim.Native.Nat.{◌+◌, ◌-◌}
 use native.Mathlib.Omega.{arith}
-use Rattle.readers.proofs.Rows.{part-there, part-past, part_none}
+use Rattle.readers.proofs.Rows.{part_there, part_past, part_none}
 use borrow.Author.Rules.{rules}
 use Rattle.readers.proofs.merge_sources.Statement.{statement}
 use Rattle.readers.proofs.merge_sources.Tie as tie
@@ -12,7 +12,7 @@ slice-aggregate-result : tie.Need-slice-aggregate-result
 slice-aggregate-result c = search rules
 
 returns : tie.Need-returns
-returns c = let a = c.before.before.args in sym (part-past a.merges.now a.offset a.count (omega arith))
+returns c = let a = c.before.before.args in sym (part_past a.merges.now a.offset a.count (omega arith))
 
 mul-result : tie.Need-overflow-mul-result
 mul-result c = search rules
@@ -48,7 +48,7 @@ returns-3 : tie.Need-returns-3
 returns-3 c =
     let a = c.before.before.before.args in
     let e : a.offset + a.count - a.offset ≡ a.count = omega arith in
-    rw e (sym (part-there a.merges.now a.offset a.count (omega arith)))
+    rw e (sym (part_there a.merges.now a.offset a.count (omega arith)))
 
 pub merge-sources-spec : {M : Type 1} → statement M
 merge-sources-spec =

@@ -1,14 +1,14 @@
 -- `readers::read_rotation` meets its contract: a number below the whole rows has its 21 words there, and any other has none.
 -- Assumes nothing.
 use native.Mathlib.Omega.{arith}
-use Rattle.readers.specs.Reading.{rotationIn}
+use Rattle.readers.specs.Reading.{rotation_in}
 use Rattle.readers.proofs.Rows.{row_read, row-none}
 use borrow.Author.Rules.{rules}
 use Rattle.readers.proofs.read_rotation.Statement.{statement}
 use Rattle.readers.proofs.read_rotation.Tie as tie
 
 returns : tie.Need-returns
-returns c = let a = c.before.before.args in row-none rotationIn 21 a.rotations.now a.number (omega arith)
+returns c = let a = c.before.before.args in row-none rotation_in 21 a.rotations.now a.number (omega arith)
 
 mul_at : tie.Need-overflow-mul-at
 mul_at c = search rules
@@ -33,7 +33,7 @@ rotation-of-requires c κs = search rules
 
 returns-2 : tie.Need-returns-2
 returns-2 c =
-    let a = c.before.before.before.before.args in row_read rotationIn 21 a.rotations.now a.number (omega arith) c.rotation-of.ensures
+    let a = c.before.before.before.before.args in row_read rotation_in 21 a.rotations.now a.number (omega arith) c.rotation-of.ensures
 
 pub read-rotation-spec : {M : Type 1} → statement M
 read-rotation-spec =

@@ -2,14 +2,14 @@
 -- Assumes nothing.
 use mathlib.Core.Path.{sym}
 use native.Mathlib.Omega.{arith}
-use Rattle.readers.specs.Reading.{stepIn}
-use Rattle.readers.proofs.Rows.{row-none, step-there}
+use Rattle.readers.specs.Reading.{step_in}
+use Rattle.readers.proofs.Rows.{row-none, step_there}
 use borrow.Author.Rules.{rules}
 use Rattle.readers.proofs.read_step.Statement.{statement}
 use Rattle.readers.proofs.read_step.Tie as tie
 
 returns : tie.Need-returns
-returns c = let a = c.before.args in row-none stepIn 2 a.steps.now a.number (omega arith)
+returns c = let a = c.before.args in row-none step_in 2 a.steps.now a.number (omega arith)
 
 mul-t4 : tie.Need-overflow-mul-t4
 mul-t4 c = search rules
@@ -33,7 +33,7 @@ shared-slice-read-t13 : tie.Need-shared-slice-read-t13
 shared-slice-read-t13 c = search rules
 
 returns-2 : tie.Need-returns-2
-returns-2 c = let a = c.before.before.before.args in sym (step-there a.steps.now a.number (omega arith))
+returns-2 c = let a = c.before.before.before.args in sym (step_there a.steps.now a.number (omega arith))
 
 pub read-step-spec : {M : Type 1} → statement M
 read-step-spec =

@@ -1,6 +1,6 @@
 -- `readers::rotation_of` meets its contract: each field is the word of its place, or what the callees read there.
 -- Assumes nothing.
-use Rattle.readers.specs.Reading.{rotationIn}
+use Rattle.readers.specs.Reading.{rotation_in}
 use borrow.Author.Rules.{rules}
 use Rattle.readers.proofs.rotation_of.Statement.{statement}
 use Rattle.readers.proofs.rotation_of.Tie as tie
@@ -69,22 +69,22 @@ shared-slice-read-t28 : tie.Need-shared-slice-read-t28
 shared-slice-read-t28 c = search rules
 
 returns : tie.Need-returns
-unfolding rotationIn
+unfolding rotation_in
 returns c =
-    let third-float = c.before.before.before.before.before.before in
-    let second-float = third-float.before.before in
-    let first-float = second-float.before.before in
-    let third-flag = first-float.before.before.before.before in
-    let second-flag = third-flag.before.before in
-    let first-flag = second-flag.before.before in
+    let third_float = c.before.before.before.before.before.before in
+    let second_float = third_float.before.before in
+    let first_float = second_float.before.before in
+    let third_flag = first_float.before.before.before.before in
+    let second_flag = third_flag.before.before in
+    let first_flag = second_flag.before.before in
     simp (
-      first-flag.before.before.action-of.ensures,
-      first-flag.flag-of.ensures,
-      second-flag.flag-of2.ensures,
-      third-flag.flag-of3.ensures,
-      first-float.float_of.ensures,
-      second-float.float-of2.ensures,
-      third-float.float-of3.ensures,
+      first_flag.before.before.action-of.ensures,
+      first_flag.flag-of.ensures,
+      second_flag.flag-of2.ensures,
+      third_flag.flag-of3.ensures,
+      first_float.float_of.ensures,
+      second_float.float-of2.ensures,
+      third_float.float-of3.ensures,
       c.before.before.before.complex-of.ensures,
     )
 

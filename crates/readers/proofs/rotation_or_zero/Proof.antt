@@ -4,7 +4,7 @@ use mathlib.Core.Path.{ap, sym, ◌∙◌}
 use mathlib.Core.List.{[]}
 use mathlib.Core.Option.{Option, get_or}
 use Rattle.readers.specs.declared.RotationRow.{RotationRow}
-use Rattle.readers.specs.Reading.{rotationIn, rotationReadOf}
+use Rattle.readers.specs.Reading.{rotation_in, rotation_read_of}
 use borrow.Author.Rules.{rules}
 use Rattle.readers.proofs.rotation_or_zero.Statement.{statement}
 use Rattle.readers.proofs.rotation_or_zero.Tie as tie
@@ -25,11 +25,11 @@ rotation-of-requires : tie.Need-rotation-of-requires
 rotation-of-requires c κs = search rules
 
 returns : tie.Need-returns
-returns c = ap (λ (o : Option RotationRow). get_or o (rotationIn [])) (sym (ap rotationReadOf c.before.read.given.1) ∙ c.before.before.before.read-rotation.ensures)
+returns c = ap (λ (o : Option RotationRow). get_or o (rotation_in [])) (sym (ap rotation_read_of c.before.read.given.1) ∙ c.before.before.before.read-rotation.ensures)
 
 returns-2 : tie.Need-returns-2
-unfolding rotationIn
-returns-2 c = c.rotation-of.ensures ∙ ap (λ (o : Option RotationRow). get_or o (rotationIn [])) (sym (ap rotationReadOf c.before.before.enum_told.given.1) ∙ c.before.before.before.before.read-rotation.ensures)
+unfolding rotation_in
+returns-2 c = c.rotation-of.ensures ∙ ap (λ (o : Option RotationRow). get_or o (rotation_in [])) (sym (ap rotation_read_of c.before.before.enum_told.given.1) ∙ c.before.before.before.before.read-rotation.ensures)
 
 pub rotation-or-zero-spec : {M : Type 1} → statement M
 rotation-or-zero-spec =

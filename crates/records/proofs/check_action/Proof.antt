@@ -1,4 +1,4 @@
--- `records::check_action` meets its contract: each return has shown by the tests before it which case of `actionNumber` holds.
+-- `records::check_action` meets its contract: each return has shown by the tests before it which case of `action_number` holds.
 -- Assumes nothing.
 use Prim.Native.Nat.{◌≤◌, ◌<◌}
 use native.Mathlib.Omega.{arith}
@@ -6,19 +6,19 @@ use mathlib.Core.List.{List}
 use Prim.Native.Nat.{ℕ}
 use borrow.Author.Rules.{rules}
 use borrow.Author.Tests.{lt-ltb, le-ltb}
-use Rattle.records.specs.Record.{width, phase, recordAt}
-use Rattle.records.specs.Pass.{actionNumber}
+use Rattle.records.specs.Record.{width, phase, record_at}
+use Rattle.records.specs.Pass.{action_number}
 use Rattle.records.proofs.check_action.Statement.{statement}
 use Rattle.records.proofs.check_action.Tie as tie
 
 abbrev record_of : tie.Start → List ℕ
-record_of s = recordAt s.args.words.now s.args.i
+record_of s = record_at s.args.words.now s.args.i
 
 word-requires : tie.Need-word-requires
 word-requires c κs = search rules
 
 returns : tie.Need-returns
-unfolding actionNumber
+unfolding action_number
 returns c =
     let h : 62 < width (record_of c.before.before.before) = omega arith in
     simp (lt-ltb _ _ h)
@@ -27,7 +27,7 @@ word-requires-2 : tie.Need-word-requires-2
 word-requires-2 c κs = search rules
 
 returns-2 : tie.Need-returns-2
-unfolding actionNumber
+unfolding action_number
 returns-2 c =
     let r = record_of c.before.before.before.before.before in
     let h : width r ≤ 62 = omega arith in
@@ -35,7 +35,7 @@ returns-2 c =
     simp (le-ltb _ _ h, lt-ltb _ _ k)
 
 returns-3 : tie.Need-returns-3
-unfolding actionNumber
+unfolding action_number
 returns-3 c =
     let r = record_of c.before.before.before.before.before in
     let h : width r ≤ 62 = omega arith in

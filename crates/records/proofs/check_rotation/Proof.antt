@@ -3,7 +3,7 @@
 use mathlib.Core.Path.{◌≡◌, sym, ap, ◌∙◌}
 use Prim.Native.Nat.{ℕ, zero, suc}
 use borrow.Author.Rules.{rules}
-use Rattle.records.specs.Pass.{or_else, rotationNumber}
+use Rattle.records.specs.Pass.{or_else, rotation_number}
 use Rattle.records.proofs.check_rotation.Statement.{statement}
 use Rattle.records.proofs.check_rotation.Tie as tie
 
@@ -24,11 +24,11 @@ check-floats-requires : tie.Need-check-floats-requires
 check-floats-requires c κs = search rules
 
 returns : tie.Need-returns
-unfolding rotationNumber
+unfolding rotation_number
 returns c = second c.before.before.check-action.ensures c.before.if1.true c.check-floats.ensures
 
 returns-2 : tie.Need-returns-2
-unfolding rotationNumber
+unfolding rotation_number
 returns-2 c = first _ _ c.before.check-action.ensures c.if1.false
 
 pub check-rotation-spec : {M : Type 1} → statement M

@@ -10,11 +10,11 @@ use borrow.Author.Tests.{lt-ltb, le-ltb}
 use Rattle.records.proofs.float_of.Statement.{statement}
 use Rattle.records.proofs.float_of.Tie as tie
 
-is-nan : (x : Float) → T (is_nan x) → nan ≡ x
+is_nan : (x : Float) → T (is_nan x) → nan ≡ x
 unfolding is_nan
-is-nan nan t = refl
-is-nan (inf s) t = absurd t
-is-nan (fin s m e) t = absurd t
+is_nan nan t = refl
+is_nan (inf s) t = absurd t
+is_nan (fin s m e) t = absurd t
 
 float-from-bits-result : tie.Need-float-from-bits-result
 float-from-bits-result c =
@@ -25,7 +25,7 @@ returns : tie.Need-returns
 unfolding of_bits div
 returns c =
     let bits = c.before.args.bits in
-    is-nan (of_bits binary64 bits)
+    is_nan (of_bits binary64 bits)
     (subst T (sym (sym (nan_bits_is binary64 bits) ∙ nan_bits_above binary64 bits ∙ lt-ltb _ _ c.if1.true)) tt)
 
 returns-2 : tie.Need-returns-2

@@ -15,12 +15,12 @@ above (inf true) e = sym e
 above (inf false) e = refl
 above (fin s m d) e = refl
 
-not-above : (x : Float) → lt (inf true) x ≡ false → lt (inf true) x ≡ finite x
+not_above : (x : Float) → lt (inf true) x ≡ false → lt (inf true) x ≡ finite x
 unfolding lt
-not-above nan e = refl
-not-above (inf true) e = refl
-not-above (inf false) e = e
-not-above (fin s m d) e = refl
+not_above nan e = refl
+not_above (inf true) e = refl
+not_above (inf false) e = e
+not_above (fin s m d) e = refl
 
 returns : tie.Need-returns
 unfolding of_bits div neg
@@ -28,7 +28,7 @@ returns c = above c.before.args.x c.if1.true
 
 returns-2 : tie.Need-returns-2
 unfolding of_bits div neg
-returns-2 c = not-above c.before.args.x c.if1.false
+returns-2 c = not_above c.before.args.x c.if1.false
 
 pub is-finite-spec : {M : Type 1} → statement M
 is-finite-spec = tie.close (tie.spec returns returns-2)

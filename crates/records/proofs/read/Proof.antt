@@ -1,4 +1,4 @@
--- `records::read` meets its contract: each arm of the match has the kind, by which `instructionOf` picks its case, and each field of a
+-- `records::read` meets its contract: each arm of the match has the kind, by which `instruction_of` picks its case, and each field of a
 -- rotation is the word or the float that its call reads.
 -- Assumes nothing.
 use mathlib.Core.Path.{◌≡◌, sym, ◌∙◌}
@@ -11,27 +11,27 @@ use lib.ListN.{get_or-eq_default}
 use lib.Ieee.{Float}
 use borrow.Author.Rules.{rules}
 use Rattle.records.specs.declared.Instruction.TheVariants.{Rotation, DormantBranch}
-use Rattle.records.specs.Record.{kind, width, xMask, zMask, phase, angle, sine, cosine, recordAt, instructionsByKind, instructionOf}
+use Rattle.records.specs.Record.{kind, width, x_mask, z_mask, phase, angle, sine, cosine, record_at, instructions_by_kind, instruction_of}
 use Rattle.records.proofs.read.Statement.{statement}
 use Rattle.records.proofs.read.Tie as tie
 
 -- the record, after the call that reads its kind
 abbrev record_of : tie.After-word → List ℕ
-record_of c = recordAt c.before.before.args.words.now c.before.before.args.i
+record_of c = record_at c.before.before.args.words.now c.before.before.args.i
 
-kind-is : (c : tie.After-word) (k : ℕ) → c.word.result ≡ k → kind (record_of c) ≡ k
-kind-is c k e = sym c.word.ensures ∙ e
+kind_is : (c : tie.After-word) (k : ℕ) → c.word.result ≡ k → kind (record_of c) ≡ k
+kind_is c k e = sym c.word.ensures ∙ e
 
 -- a rotation whose fields are the record's
-fields : (r : List ℕ) {w x z p : ℕ} {a s c : Float} → w ≡ width r → x ≡ xMask r → z ≡ zMask r → p ≡ phase r → a ≡ angle r → s ≡ sine r → c ≡ cosine r
-    → Rotation w x z p a s c ≡ Rotation (width r) (xMask r) (zMask r) (phase r) (angle r) (sine r) (cosine r)
+fields : (r : List ℕ) {w x z p : ℕ} {a s c : Float} → w ≡ width r → x ≡ x_mask r → z ≡ z_mask r → p ≡ phase r → a ≡ angle r → s ≡ sine r → c ≡ cosine r
+    → Rotation w x z p a s c ≡ Rotation (width r) (x_mask r) (z_mask r) (phase r) (angle r) (sine r) (cosine r)
 fields r w x z p a s c d = Rotation (w d) (x d) (z d) (p d) (a d) (s d) (c d)
 
 -- the last kind, and all above it
-last : (r : List ℕ) → 5 ≤ kind r → DormantBranch ≡ instructionOf r
-unfolding instructionOf
+last : (r : List ℕ) → 5 ≤ kind r → DormantBranch ≡ instruction_of r
+unfolding instruction_of
 last r h =
-    ⊎_elim (λ e. rw (← e)) (λ l. sym (get_or-eq_default (instructionsByKind r) DormantBranch l)) (eq-or-lt_of_le h)
+    ⊎_elim (λ e. rw (← e)) (λ l. sym (get_or-eq_default (instructions_by_kind r) DormantBranch l)) (eq-or-lt_of_le h)
 
 word-requires : tie.Need-word-requires
 word-requires c κs = search rules
@@ -61,35 +61,35 @@ read-measurement-requires : tie.Need-read-measurement-requires
 read-measurement-requires c κs = search rules
 
 returns : tie.Need-returns
-unfolding instructionOf
+unfolding instruction_of
 returns c =
-    let at-phase = c.before.before.before in
-    let at-match = at-phase.before.before.before.before in
-    rw (kind-is at-match.before 0 at-match.match.keys1)
-    (fields (record_of at-match.before)
-    at-phase.before.before.before.word2.ensures
-    at-phase.before.before.word3.ensures
-    at-phase.before.word4.ensures
-    at-phase.word5.ensures
+    let at_phase = c.before.before.before in
+    let at_match = at_phase.before.before.before.before in
+    rw (kind_is at_match.before 0 at_match.match.keys1)
+    (fields (record_of at_match.before)
+    at_phase.before.before.before.word2.ensures
+    at_phase.before.before.word3.ensures
+    at_phase.before.word4.ensures
+    at_phase.word5.ensures
     c.before.before.float_word.ensures
     c.before.float-word2.ensures
     c.float-word3.ensures)
 
 returns-2 : tie.Need-returns-2
-unfolding instructionOf
-returns-2 c = rw (kind-is c.before 1 c.match.keys2)
+unfolding instruction_of
+returns-2 c = rw (kind_is c.before 1 c.match.keys2)
 
 returns-3 : tie.Need-returns-3
-unfolding instructionOf
-returns-3 c = rw (kind-is c.before 2 c.match.keys3)
+unfolding instruction_of
+returns-3 c = rw (kind_is c.before 2 c.match.keys3)
 
 returns-4 : tie.Need-returns-4
-unfolding instructionOf
-returns-4 c = rw (kind-is c.before 3 c.match.keys4)
+unfolding instruction_of
+returns-4 c = rw (kind_is c.before 3 c.match.keys4)
 
 returns-5 : tie.Need-returns-5
-unfolding instructionOf
-returns-5 c = rw (kind-is c.before.before 4 c.before.match.keys5) c.read-measurement.ensures
+unfolding instruction_of
+returns-5 c = rw (kind_is c.before.before 4 c.before.match.keys5) c.read-measurement.ensures
 
 returns-6 : tie.Need-returns-6
 returns-6 c = last (record_of c.before) (omega arith)

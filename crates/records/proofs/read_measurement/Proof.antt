@@ -1,4 +1,4 @@
--- `records::read_measurement` meets its contract: the branch has the flag, by which `measurementOf` picks its case, and each field is the word
+-- `records::read_measurement` meets its contract: the branch has the flag, by which `measurement_of` picks its case, and each field is the word
 -- that `word` reads.
 -- Assumes nothing.
 use mathlib.Core.Path.{◌≡◌, sym, ◌∙◌}
@@ -8,23 +8,23 @@ use native.Mathlib.Omega.{arith}
 use lib.ListN.{get_or-eq_default}
 use borrow.Author.Rules.{rules}
 use Rattle.records.specs.declared.Instruction.TheVariants.{Measurement, Expectation}
-use Rattle.records.specs.Record.{width, xMask, zMask, phase, pivot, flag, recordAt, measurementOf}
+use Rattle.records.specs.Record.{width, x_mask, z_mask, phase, pivot, flag, record_at, measurement_of}
 use Rattle.records.proofs.read_measurement.Statement.{statement}
 use Rattle.records.proofs.read_measurement.Tie as tie
 
 -- the record, after the call that reads its flag
 abbrev record_of : tie.After-word → List ℕ
-record_of c = recordAt c.before.before.args.words.now c.before.before.args.i
+record_of c = record_at c.before.before.args.words.now c.before.before.args.i
 
 -- a measurement whose fields are the record's
-fields : (r : List ℕ) {w x z p v : ℕ} → w ≡ width r → x ≡ xMask r → z ≡ zMask r → p ≡ phase r → v ≡ pivot r
-    → Measurement w x z p v ≡ Measurement (width r) (xMask r) (zMask r) (phase r) (pivot r)
+fields : (r : List ℕ) {w x z p v : ℕ} → w ≡ width r → x ≡ x_mask r → z ≡ z_mask r → p ≡ phase r → v ≡ pivot r
+    → Measurement w x z p v ≡ Measurement (width r) (x_mask r) (z_mask r) (phase r) (pivot r)
 fields r w x z p v d = Measurement (w d) (x d) (z d) (p d) (v d)
 
-not-zero : (r : List ℕ) → 1 ≤ flag r → Expectation ≡ measurementOf r
-unfolding measurementOf
+not-zero : (r : List ℕ) → 1 ≤ flag r → Expectation ≡ measurement_of r
+unfolding measurement_of
 not-zero r h =
-    sym (get_or-eq_default (Measurement (width r) (xMask r) (zMask r) (phase r) (pivot r) ∷ []) Expectation h)
+    sym (get_or-eq_default (Measurement (width r) (x_mask r) (z_mask r) (phase r) (pivot r) ∷ []) Expectation h)
 
 word-requires : tie.Need-word-requires
 word-requires c κs = search rules
@@ -45,7 +45,7 @@ word-requires-6 : tie.Need-word-requires-6
 word-requires-6 c κs = search rules
 
 returns : tie.Need-returns
-unfolding measurementOf
+unfolding measurement_of
 returns c =
     let at_flag = c.before.before.before.before.before.before in
     let e : flag (record_of at_flag) ≡ 0 = sym at_flag.word.ensures ∙ c.before.before.before.before.before.if1.true in

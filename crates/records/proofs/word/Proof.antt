@@ -7,13 +7,13 @@ use Prim.Native.Nat.{ℕ, ◌+◌, ◌*◌, ◌≤◌, ◌<◌}
 use native.Mathlib.Omega.{arith}
 use lib.ListN.{length, get_or-eq_default}
 use borrow.Author.Rules.{rules}
-use Rattle.records.specs.Record.{word_of, recordAt}
-use Rattle.records.proofs.Words.{word-at}
+use Rattle.records.specs.Record.{word_of, record_at}
+use Rattle.records.proofs.Words.{word_at}
 use Rattle.records.proofs.word.Statement.{statement}
 use Rattle.records.proofs.word.Tie as tie
 
-past : (ws : List ℕ) (i j : ℕ) → j < 8 → length ws ≤ 8 * i + j → 0 ≡ word_of (recordAt ws i) j
-past ws i j h l = sym (word-at ws i j h ∙ get_or-eq_default ws 0 l)
+past : (ws : List ℕ) (i j : ℕ) → j < 8 → length ws ≤ 8 * i + j → 0 ≡ word_of (record_at ws i) j
+past ws i j h l = sym (word_at ws i j h ∙ get_or-eq_default ws 0 l)
 
 returns : tie.Need-returns
 returns c = past c.before.args.words.now c.before.args.i c.before.args.j (search rules) (omega arith)
@@ -31,7 +31,7 @@ shared-slice-read-result : tie.Need-shared-slice-read-result
 shared-slice-read-result c = search rules
 
 returns-2 : tie.Need-returns-2
-returns-2 c = let a = c.before.before.before.args in sym (word-at a.words.now a.i a.j (search rules))
+returns-2 c = let a = c.before.before.before.args in sym (word_at a.words.now a.i a.j (search rules))
 
 returns-3 : tie.Need-returns-3
 returns-3 c =

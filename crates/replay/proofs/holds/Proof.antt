@@ -9,14 +9,14 @@ use lib.ListN.{length, get_or, replicate, length-append, length-replicate}
 use lib.Seq.{ext_get_or}
 use borrow.Author.Count.{below_more}
 use Rattle.definition.specs.Plan.{padded}
-use Rattle.definition.proofs.Padded.{zeroed-at}
+use Rattle.definition.proofs.Padded.{zeroed_at}
 use borrow.Author.Rules.{rules}
 use Rattle.replay.proofs.holds.Statement.{statement}
 use Rattle.replay.proofs.holds.Tie as tie
 
 -- the words and zeros are as many as they should be, or as the words where these are more
-padded-length : (n : ℕ) (ws : List ℕ) → length (padded n ws) ≡ length ws + (n - length ws)
-padded-length n ws = length-append ws (replicate (n - length ws) 0) ∙ ap (λ (k : ℕ). length ws + k) (length-replicate (n - length ws) 0)
+padded_length : (n : ℕ) (ws : List ℕ) → length (padded n ws) ≡ length ws + (n - length ws)
+padded_length n ws = length-append ws (replicate (n - length ws) 0) ∙ ap (λ (k : ℕ). length ws + k) (length-replicate (n - length ws) 0)
 
 -- the answer false is not true
 never : {X : Type 0} → false ≡ true → X
@@ -31,7 +31,7 @@ decreases-loop buffer used at₀ at = length buffer - at
 returns : tie.Need-returns invariant-loop decreases-loop
 returns c =
     let a = c.before.before.before.args in
-    (never, (λ e. absurd (omega (arith, ap length e ∙ padded-length (length a.buffer.now) a.used.now))))
+    (never, (λ e. absurd (omega (arith, ap length e ∙ padded_length (length a.buffer.now) a.used.now))))
 
 loop-holds : tie.Need-loop-init invariant-loop decreases-loop
 loop-holds c = (omega arith, λ k below. absurd (omega arith))
@@ -47,10 +47,10 @@ word-or-0-requires c κs = search rules
 
 returns-2 : tie.Need-returns-2 invariant-loop decreases-loop
 returns-2 c =
-    let at-loop = c.before.before.before.before in
-    let a = at-loop.before.before.before.before.args in
+    let at_loop = c.before.before.before.before in
+    let a = at_loop.before.before.before.before.args in
     let n : ℕ = length a.buffer.now in
-    (never, (λ e. absurd (c.if2.true (zeroed-at a.used.now a.buffer.now at-loop.loop.at (n, e) ∙ sym c.before.word-or-0.ensures))))
+    (never, (λ e. absurd (c.if2.true (zeroed_at a.used.now a.buffer.now at_loop.loop.at (n, e) ∙ sym c.before.word-or-0.ensures))))
 
 add_at : tie.Need-overflow-add-at invariant-loop decreases-loop
 add_at c = search rules
@@ -63,12 +63,12 @@ loop-again c = (omega arith, below_more _ _ c.before.before.before.before.loop.i
 
 returns-3 : tie.Need-returns-3 invariant-loop decreases-loop
 returns-3 c =
-    let at-loop = c.before in
-    let a = at-loop.before.before.before.before.args in
+    let at_loop = c.before in
+    let a = at_loop.before.before.before.before.args in
     let n : ℕ = length a.buffer.now in
     let used = a.used.now in
-    let long = padded-length n used in (
-      (λ e. ext_get_or 0 a.buffer.now (padded n used) (omega arith) (λ k h. at-loop.loop.invariant.1 k (omega arith) ∙ sym (zeroed-at used (padded n used) k (n, refl)))),
+    let long = padded_length n used in (
+      (λ e. ext_get_or 0 a.buffer.now (padded n used) (omega arith) (λ k h. at_loop.loop.invariant.1 k (omega arith) ∙ sym (zeroed_at used (padded n used) k (n, refl)))),
       (λ e. refl),
     )
 

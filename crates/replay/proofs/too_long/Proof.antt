@@ -35,9 +35,9 @@ loop-less c = search rules
 
 loop-again : tie.Need-loop-preserved invariant-loop decreases-loop
 loop-again c =
-    let at-loop = c.before.before.before in
-    let head = at-loop.before.args.head.now in
-    (search rules, below_more (λ (k : ℕ). 4 ≤ k → get_or head k 0 ≤ 4096) at-loop.loop.i at-loop.loop.invariant.1 (λ least. c.if1.false))
+    let at_loop = c.before.before.before in
+    let head = at_loop.before.args.head.now in
+    (search rules, below_more (λ (k : ℕ). 4 ≤ k → get_or head k 0 ≤ 4096) at_loop.loop.i at_loop.loop.invariant.1 (λ least. c.if1.false))
 
 returns-2 : tie.Need-returns-2 invariant-loop decreases-loop
 returns-2 c = λ e. record { room = λ k least below. c.before.loop.invariant.1 k (omega arith) least }

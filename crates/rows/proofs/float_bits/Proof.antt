@@ -11,14 +11,14 @@ use borrow.Author.Rules.{rules}
 use Rattle.rows.proofs.float_bits.Statement.{statement}
 use Rattle.rows.proofs.float_bits.Tie as tie
 
-not-nan : (x : Float) → ne x x ≡ false → T (not (is_nan x))
+not_nan : (x : Float) → ne x x ≡ false → T (not (is_nan x))
 unfolding is_nan
-not-nan nan e = let z : true ≡ false = sym nan_differs ∙ e in let n : ◌≡◌ {A = ℕ} 0 1 = cc in absurd (omega arith)
-not-nan (inf s) e = tt
-not-nan (fin s m e) h = tt
+not_nan nan e = let z : true ≡ false = sym nan_differs ∙ e in let n : ◌≡◌ {A = ℕ} 0 1 = cc in absurd (omega arith)
+not_nan (inf s) e = tt
+not_nan (fin s m e) h = tt
 
 float-to-bits-result : tie.Need-float-to-bits-result
-float-to-bits-result c = not-nan c.before.args.x c.if1.false
+float-to-bits-result c = not_nan c.before.args.x c.if1.false
 
 returns : tie.Need-returns
 unfolding to_bits

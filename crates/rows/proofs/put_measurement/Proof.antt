@@ -1,8 +1,8 @@
 -- `outputs::rows::put_measurement` meets its contract: a measurement's row has 19 words, which go into the part that begins at their place.
-use Rattle.outputs.proofs.Parts.{part-written}
-use Rattle.definition.proofs.Growth.{measurement-row-length}
+use Rattle.outputs.proofs.Parts.{part_written}
+use Rattle.definition.proofs.Growth.{measurement_row_length}
 use Prim.Native.Nat.{◌*◌}
-use Rattle.definition.specs.Walk.{measurementRow}
+use Rattle.definition.specs.Walk.{measurement_row}
 use borrow.Author.Rules.{rules}
 use Rattle.rows.proofs.put_measurement.Statement.{statement}
 use Rattle.rows.proofs.put_measurement.Tie as tie
@@ -31,9 +31,9 @@ same_length c = search rules
 returns : tie.Need-returns
 returns c =
     let a = c.before.before.before.before.before.args in
-    let row = measurementRow a.head.component a.head.merge_offset a.head.merge_count a.kernel a.deactivated in
-    let long = measurement-row-length a.head.component a.head.merge_offset a.head.merge_count a.kernel a.deactivated in
-    part-written (19 * a.number) 19 row a.rows.now c.before.before.write-measurement.new.0 long c.before.before.write-measurement.ensures
+    let row = measurement_row a.head.component a.head.merge_offset a.head.merge_count a.kernel a.deactivated in
+    let long = measurement_row_length a.head.component a.head.merge_offset a.head.merge_count a.kernel a.deactivated in
+    part_written (19 * a.number) 19 row a.rows.now c.before.before.write-measurement.new.0 long c.before.before.write-measurement.ensures
 
 pub put-measurement-spec : {M : Type 1} → statement M
 put-measurement-spec =

@@ -1,8 +1,8 @@
 -- `outputs::rows::put_rotation` meets its contract: a rotation's row has 21 words, which go into the part that begins at their place.
-use Rattle.outputs.proofs.Parts.{part-written}
-use Rattle.definition.proofs.Growth.{rotation-row-length}
+use Rattle.outputs.proofs.Parts.{part_written}
+use Rattle.definition.proofs.Growth.{rotation_row_length}
 use Prim.Native.Nat.{◌*◌}
-use Rattle.definition.specs.Walk.{rotationRow}
+use Rattle.definition.specs.Walk.{rotation_row}
 use borrow.Author.Rules.{rules}
 use Rattle.rows.proofs.put_rotation.Statement.{statement}
 use Rattle.rows.proofs.put_rotation.Tie as tie
@@ -31,9 +31,9 @@ same_length c = search rules
 returns : tie.Need-returns
 returns c =
     let a = c.before.before.before.before.before.args in
-    let row = rotationRow a.head.component a.head.merge_offset a.head.merge_count a.kernel in
-    let long = rotation-row-length a.head.component a.head.merge_offset a.head.merge_count a.kernel in
-    part-written (21 * a.number) 21 row a.rows.now c.before.before.write-rotation.new.0 long c.before.before.write-rotation.ensures
+    let row = rotation_row a.head.component a.head.merge_offset a.head.merge_count a.kernel in
+    let long = rotation_row_length a.head.component a.head.merge_offset a.head.merge_count a.kernel in
+    part_written (21 * a.number) 21 row a.rows.now c.before.before.write-rotation.new.0 long c.before.before.write-rotation.ensures
 
 pub put-rotation-spec : {M : Type 1} → statement M
 put-rotation-spec =

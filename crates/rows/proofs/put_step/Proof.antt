@@ -1,5 +1,5 @@
 -- `outputs::rows::put_step` meets its contract: a step has two words, which go into the part that begins at their place.
-use Rattle.outputs.proofs.Parts.{part-written}
+use Rattle.outputs.proofs.Parts.{part_written}
 use mathlib.Core.Path.{refl}
 use Prim.Native.Nat.{◌*◌}
 use mathlib.Core.List.{[], ◌∷◌}
@@ -31,7 +31,7 @@ same_length c = search rules
 returns : tie.Need-returns
 returns c =
     let a = c.before.before.before.before.before.args in
-    part-written (2 * a.index) 2 (a.kind ∷ a.payload ∷ []) a.steps.now c.before.before.write_step.new.0 refl c.before.before.write_step.ensures
+    part_written (2 * a.index) 2 (a.kind ∷ a.payload ∷ []) a.steps.now c.before.before.write_step.new.0 refl c.before.before.write_step.ensures
 
 pub put-step-spec : {M : Type 1} → statement M
 put-step-spec =

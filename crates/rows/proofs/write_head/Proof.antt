@@ -2,7 +2,7 @@
 -- Assumes nothing.
 use native.Mathlib.Omega.{arith}
 use lib.ListN.{length-set}
-use Rattle.rows.proofs.Words.{head-written}
+use Rattle.rows.proofs.Words.{head_written}
 use borrow.Author.Rules.{rules}
 use Rattle.rows.proofs.write_head.Statement.{statement}
 use Rattle.rows.proofs.write_head.Tie as tie
@@ -66,7 +66,7 @@ returns c =
     let first = second.before in
     let start = first.before.before in
     let head = start.args.head in
-    head-written head.component head.merge_offset head.merge_count start.args.action start.args.row.now
+    head_written head.component head.merge_offset head.merge_count start.args.action start.args.row.now
     first.float-bits.result second.float-bits2.result third.float-bits3.result fourth.float-bits4.result c.flag_word.result start.requires
     first.float-bits.ensures second.float-bits2.ensures third.float-bits3.ensures fourth.float-bits4.ensures c.flag_word.ensures
 

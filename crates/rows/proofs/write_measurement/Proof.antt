@@ -3,7 +3,7 @@
 -- Assumes nothing.
 use native.Mathlib.Omega.{arith}
 use lib.ListN.{length-set}
-use Rattle.rows.proofs.Words.{measurement-written}
+use Rattle.rows.proofs.Words.{measurement_written}
 use borrow.Author.Rules.{rules}
 use Rattle.rows.proofs.write_measurement.Statement.{statement}
 use Rattle.rows.proofs.write_measurement.Tie as tie
@@ -52,16 +52,16 @@ same_length c = simp length-set c.before.before.before.before.before.before.writ
 
 returns : tie.Need-returns
 returns c =
-    let second-bits = c.before in
-    let first-bits = second-bits.before in
-    let diagonal = first-bits.before in
+    let second_bits = c.before in
+    let first_bits = second_bits.before in
+    let diagonal = first_bits.before in
     let written = diagonal.before.before.before in
     let args = written.before.before.before.before.args in
     let head = args.head in
-    measurement-written head.component head.merge_offset head.merge_count args.kernel args.deactivated args.row.now
-    written.write-head.new.0 diagonal.flag_word.result first-bits.float-bits.result second-bits.float-bits2.result c.flag-word2.result
+    measurement_written head.component head.merge_offset head.merge_count args.kernel args.deactivated args.row.now
+    written.write-head.new.0 diagonal.flag_word.result first_bits.float-bits.result second_bits.float-bits2.result c.flag-word2.result
     written.before.before.before.before.requires written.write-head.ensures
-    diagonal.flag_word.ensures first-bits.float-bits.ensures second-bits.float-bits2.ensures c.flag-word2.ensures
+    diagonal.flag_word.ensures first_bits.float-bits.ensures second_bits.float-bits2.ensures c.flag-word2.ensures
 
 pub write-measurement-spec : {M : Type 1} → statement M
 write-measurement-spec =

@@ -3,7 +3,7 @@
 -- Assumes nothing.
 use native.Mathlib.Omega.{arith}
 use lib.ListN.{length-set}
-use Rattle.rows.proofs.Words.{rotation-written}
+use Rattle.rows.proofs.Words.{rotation_written}
 use borrow.Author.Rules.{rules}
 use Rattle.rows.proofs.write_rotation.Statement.{statement}
 use Rattle.rows.proofs.write_rotation.Tie as tie
@@ -80,7 +80,7 @@ returns c =
     let written = diagonal.before.before.before in
     let args = written.before.before.before.before.args in
     let head = args.head in
-    rotation-written head.component head.merge_offset head.merge_count args.kernel args.row.now written.write-head.new.0
+    rotation_written head.component head.merge_offset head.merge_count args.kernel args.row.now written.write-head.new.0
     diagonal.flag_word.result uniform.flag-word2.result flip.flag-word3.result
     first.float-bits.result second.float-bits2.result third.float-bits3.result fourth.float-bits4.result c.float-bits5.result
     written.before.before.before.before.requires written.write-head.ensures

@@ -4,9 +4,9 @@ use Prim.Native.Nat.{ℕ, ◌+◌, ◌-◌, ◌<◌, ◌≤◌}
 use native.Mathlib.Omega.{arith}
 use lib.ListN.{length, get_or, length-set}
 use borrow.Author.Rules.{rules}
-use Rattle.positions.proofs.Arrays.{store_below, store-above}
+use Rattle.positions.proofs.Arrays.{store_below, store_above}
 use Rattle.state.specs.Steps.{skip}
-use Rattle.state.proofs.Numbers.{skip-before, skip-behind}
+use Rattle.state.proofs.Numbers.{skip_before, skip_behind}
 use Rattle.state.proofs.close_gap.Statement.{statement}
 use Rattle.state.proofs.close_gap.Tie as tie
 
@@ -23,7 +23,7 @@ loop-holds c = (
   search rules,
   search rules,
   search rules,
-  λ q h. ap (λ (k : ℕ). get_or c.args.order.now k 0) (sym (skip-before c.args.pivot q h)),
+  λ q h. ap (λ (k : ℕ). get_or c.args.order.now k 0) (sym (skip_before c.args.pivot q h)),
   λ q h. refl,
 )
 
@@ -58,8 +58,8 @@ loop-again c =
       omega arith,
       simp length-set turn.invariant.2,
       store_below (λ (q x : ℕ). x ≡ get_or first (skip pivot q) 0) turn.order turn.p _ (omega arith) turn.invariant.3
-          (turn.invariant.4 (turn.p + 1) (omega arith) ∙ ap (λ (k : ℕ). get_or first k 0) (omega (arith, skip-behind pivot turn.p turn.invariant.0))),
-      store-above (λ (q x : ℕ). x ≡ get_or first q 0) turn.order turn.p _ turn.invariant.4,
+          (turn.invariant.4 (turn.p + 1) (omega arith) ∙ ap (λ (k : ℕ). get_or first k 0) (omega (arith, skip_behind pivot turn.p turn.invariant.0))),
+      store_above (λ (q x : ℕ). x ≡ get_or first q 0) turn.order turn.p _ turn.invariant.4,
     )
 
 returns : tie.Need-returns invariant-loop decreases-loop

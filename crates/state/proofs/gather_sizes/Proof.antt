@@ -3,17 +3,17 @@ use mathlib.Core.Path.{◌≡◌, refl, sym, ap, ◌∙◌}
 use Prim.Native.Nat.{ℕ, ◌+◌, ◌-◌, ◌≤◌}
 use native.Mathlib.Omega.{arith}
 use lib.ListN.{length, get_or, drop, set, drop_of_length-le}
-use Rattle.state.specs.Steps.{Gathering, gatherFrom, gathering, target_of}
+use Rattle.state.specs.Steps.{Gathering, gather_from, gathering, target_of}
 use borrow.Author.Rules.{rules}
 use mathlib.Core.List.{List}
 use Rattle.positions.proofs.Arrays.{rest_at}
-use Rattle.state.proofs.Gathers.{grown-rises}
+use Rattle.state.proofs.Gathers.{grown_rises}
 use Rattle.state.proofs.gather_sizes.Statement.{statement}
 use Rattle.state.proofs.gather_sizes.Tie as tie
 
 abbrev invariant-loop : tie.invariant-loop
 invariant-loop size₀ sources rise₀ target grown₀ i₀ size rise grown i =
-    (1 ≤ i) × (i ≤ length sources) × (gatherFrom (drop i sources) (record { rise = rise; sizes = size; grown = grown }) ≡ gathering size₀ sources)
+    (1 ≤ i) × (i ≤ length sources) × (gather_from (drop i sources) (record { rise = rise; sizes = size; grown = grown }) ≡ gathering size₀ sources)
 
 abbrev decreases-loop : tie.decreases-loop
 decreases-loop size₀ sources rise₀ target grown₀ i₀ size rise grown i = length sources - i
@@ -36,13 +36,13 @@ after c =
     record { rise = set turn.rise source turn.grown; sizes = set turn.size source 0; grown = turn.grown + get_or turn.size source 0 }
 
 goes_on : (c : tie.In-loop invariant-loop decreases-loop)
-    → gatherFrom (drop (c.before.loop.i + 1) c.before.before.before.before.args.sources.now) (after c)
+    → gather_from (drop (c.before.loop.i + 1) c.before.before.before.before.args.sources.now) (after c)
     ≡ gathering c.before.before.before.before.args.size.now c.before.before.before.before.args.sources.now
 goes_on c =
     let turn = c.before.loop in
     let sources = c.before.before.before.before.args.sources.now in
     sym
-    (ap (λ (l : List ℕ). gatherFrom l (record { rise = turn.rise; sizes = turn.size; grown = turn.grown }))
+    (ap (λ (l : List ℕ). gather_from l (record { rise = turn.rise; sizes = turn.size; grown = turn.grown }))
     (rest_at sources turn.i c.loop-test.true))
     ∙ turn.invariant.2
 
@@ -64,7 +64,7 @@ add-grown c =
     let start = turn.before.before.before.before in
     omega (
       arith,
-      grown-rises (drop (turn.before.loop.i + 1) start.args.sources.now) (after turn),
+      grown_rises (drop (turn.before.loop.i + 1) start.args.sources.now) (after turn),
       ap (λ (g : Gathering). g.grown) (goes_on turn),
       start.requires.few,
     )
@@ -90,7 +90,7 @@ returns c =
     let sources = c.before.before.before.before.args.sources.now in
     let all =
     sym
-    (ap (λ (l : List ℕ). gatherFrom l (record { rise = turn.rise; sizes = turn.size; grown = turn.grown }))
+    (ap (λ (l : List ℕ). gather_from l (record { rise = turn.rise; sizes = turn.size; grown = turn.grown }))
     (drop_of_length-le sources c.loop-test.false))
     ∙ turn.invariant.2 in
     (ap (λ (g : Gathering). g.rise) all, ap (λ (g : Gathering). set g.sizes (target_of sources) g.grown) all)

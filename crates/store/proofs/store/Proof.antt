@@ -12,7 +12,7 @@ use Rattle.answer.specs.declared.Planned.TheVariants as P
 use Rattle.component_plan.specs.Answer.{Answers}
 use Rattle.store.specs.declared.Stored.TheVariants as S
 use Rattle.store.specs.Storing.{Stores}
-use Rattle.store.proofs.Answering.{Inside, inside, stores-short, stores-file, stores-refused}
+use Rattle.store.proofs.Answering.{Inside, inside, stores_short, stores_file, stores_refused}
 use borrow.Author.Rules.{rules}
 use Rattle.store.proofs.store.Statement.{statement}
 use Rattle.store.proofs.store.Tie as tie
@@ -31,18 +31,18 @@ same : (c : tie.After-build-active-component-plan) → SameLengths (before_of (s
 same c = record { steps = c.build-active-component-plan.auto.1.1.0; merges = c.build-active-component-plan.auto.1.1.1.0; sizes = c.build-active-component-plan.auto.1.1.1.1.0; rotations = c.build-active-component-plan.auto.1.1.1.1.1.0; promotions = c.build-active-component-plan.auto.1.1.1.1.1.1.0; measurements = c.build-active-component-plan.auto.1.1.1.1.1.1.1.0; groups = c.build-active-component-plan.auto.1.1.1.1.1.1.1.1.0 }
 
 -- planning gave a plan
-abbrev planned-of : tie.After-planned2 → tie.After-build-active-component-plan
-planned-of c = c.before.before.before.before.before.before.before.before.before.before.before.before.before.before.before.before
+abbrev planned_of : tie.After-planned2 → tie.After-build-active-component-plan
+planned_of c = c.before.before.before.before.before.before.before.before.before.before.before.before.before.before.before.before
 
 abbrev plan-of : tie.After-planned2 → ActiveComponentPlan
 plan-of c = c.planned2.given.0.0
 
-answers : (c : tie.After-planned2) → let s = start_of (planned-of c) in Answers s.args.head s.args.records.now (before_of s) (between-of (planned-of c)) (P.Plan (plan-of c))
-answers c = let s = start_of (planned-of c) in
-    subst (λ (r : Planned). Answers s.args.head s.args.records.now (before_of s) (between-of (planned-of c)) r) c.planned2.given.1 (planned-of c).build-active-component-plan.ensures
+answers : (c : tie.After-planned2) → let s = start_of (planned_of c) in Answers s.args.head s.args.records.now (before_of s) (between-of (planned_of c)) (P.Plan (plan-of c))
+answers c = let s = start_of (planned_of c) in
+    subst (λ (r : Planned). Answers s.args.head s.args.records.now (before_of s) (between-of (planned_of c)) r) c.planned2.given.1 (planned_of c).build-active-component-plan.ensures
 
-fits : (c : tie.After-planned2) → let s = start_of (planned-of c) in Inside s.args.head s.args.records.now (before_of s) (between-of (planned-of c)) (plan-of c) (answers c)
-fits c = let s = start_of (planned-of c) in inside s.args.head s.args.records.now (before_of s) (between-of (planned-of c)) (plan-of c) (answers c)
+fits : (c : tie.After-planned2) → let s = start_of (planned_of c) in Inside s.args.head s.args.records.now (before_of s) (between-of (planned_of c)) (plan-of c) (answers c)
+fits c = let s = start_of (planned_of c) in inside s.args.head s.args.records.now (before_of s) (between-of (planned_of c)) (plan-of c) (answers c)
 
 -- so many words are in front
 front : (n : ℕ) (xs : List ℕ) → n ≤ length xs → n ≡ length (take n xs)
@@ -61,7 +61,7 @@ enum-known-planned-2 : tie.Need-enum-known-planned-2
 enum-known-planned-2 c = search rules
 
 word-count-requires : tie.Need-word-count-requires
-word-count-requires c κs = let i = fits c.before.before in omega (arith, i, start_of (planned-of c.before.before))
+word-count-requires c κs = let i = fits c.before.before in omega (arith, i, start_of (planned_of c.before.before))
 
 clear-all-requires : tie.Need-clear-all-requires
 clear-all-requires c κs = search rules
@@ -96,55 +96,55 @@ same-length-8 c = search rules
 returns : tie.Need-returns
 returns c =
     let w = c.before.before.before.before.before.before.before.before.before.before.before.before.before.before.before.before.before.before.before.before.before.before.before.before.before.before.before.before.before.before in
-    let s = start_of (planned-of w) in
+    let s = start_of (planned_of w) in
     let short = c.before.before.before.before.before.before.before.before.before.before.before.before.before.before.before.before.before.before.before.before.before.before.before.before.before.before.if1.true in
     let words = c.before.before.before.before.before.before.before.before.before.before.before.before.before.before.before.before.before.before.before.before.before.before.before.before.before.before.before.word_count.ensures in
-    stores-short s.args.head s.args.records.now (before_of s) (between-of (planned-of w)) (plan-of w) (answers w) (record { steps = c.before.before.before.before.before.before.before.before.before.before.before.before.before.before.before.before.before.before.clear-all.new.0; merges = c.before.before.before.before.before.before.before.before.before.before.before.before.before.before.before.before.before.before.clear-all.new.1.0; sizes = c.before.before.before.before.before.before.before.before.before.before.before.before.before.before.before.before.before.before.clear-all.new.1.1.0; rotations = c.before.before.before.before.before.before.before.before.before.before.before.before.before.before.before.before.before.before.clear-all.new.1.1.1.0; promotions = c.before.before.before.before.before.before.before.before.before.before.before.before.before.before.before.before.before.before.clear-all.new.1.1.1.1.0; measurements = c.before.before.before.before.before.before.before.before.before.before.before.before.before.before.before.before.before.before.clear-all.new.1.1.1.1.1.0; groups = c.before.before.before.before.before.before.before.before.before.before.before.before.before.before.before.before.before.before.clear-all.new.1.1.1.1.1.1.0 }) s.args.file.now c.before.before.clear-bytes2.new.0
-    (omega (arith, short, words)) (same (planned-of w)) c.before.before.before.before.before.before.before.before.before.before.before.before.before.before.before.before.before.before.clear-all.ensures c.before.before.clear-bytes2.ensures
+    stores_short s.args.head s.args.records.now (before_of s) (between-of (planned_of w)) (plan-of w) (answers w) (record { steps = c.before.before.before.before.before.before.before.before.before.before.before.before.before.before.before.before.before.before.clear-all.new.0; merges = c.before.before.before.before.before.before.before.before.before.before.before.before.before.before.before.before.before.before.clear-all.new.1.0; sizes = c.before.before.before.before.before.before.before.before.before.before.before.before.before.before.before.before.before.before.clear-all.new.1.1.0; rotations = c.before.before.before.before.before.before.before.before.before.before.before.before.before.before.before.before.before.before.clear-all.new.1.1.1.0; promotions = c.before.before.before.before.before.before.before.before.before.before.before.before.before.before.before.before.before.before.clear-all.new.1.1.1.1.0; measurements = c.before.before.before.before.before.before.before.before.before.before.before.before.before.before.before.before.before.before.clear-all.new.1.1.1.1.1.0; groups = c.before.before.before.before.before.before.before.before.before.before.before.before.before.before.before.before.before.before.clear-all.new.1.1.1.1.1.1.0 }) s.args.file.now c.before.before.clear-bytes2.new.0
+    (omega (arith, short, words)) (same (planned_of w)) c.before.before.before.before.before.before.before.before.before.before.before.before.before.before.before.before.before.before.clear-all.ensures c.before.before.clear-bytes2.ensures
 
 slice-reshare-prefix-write-file : tie.Need-slice-reshare-prefix-write-file
-slice-reshare-prefix-write-file c = let i = fits c.before.before.before.before in let k = same (planned-of c.before.before.before.before) in omega (arith, i.steps, k.steps)
+slice-reshare-prefix-write-file c = let i = fits c.before.before.before.before in let k = same (planned_of c.before.before.before.before) in omega (arith, i.steps, k.steps)
 
 slice-aggregate-write-file : tie.Need-slice-aggregate-write-file
-slice-aggregate-write-file c = let i = fits c.before.before.before.before.before in let k = same (planned-of c.before.before.before.before.before) in front _ _ (omega (arith, i.steps, k.steps))
+slice-aggregate-write-file c = let i = fits c.before.before.before.before.before in let k = same (planned_of c.before.before.before.before.before) in front _ _ (omega (arith, i.steps, k.steps))
 
 slice-reshare-prefix-write-file-2 : tie.Need-slice-reshare-prefix-write-file-2
-slice-reshare-prefix-write-file-2 c = let i = fits c.before.before.before.before.before in let k = same (planned-of c.before.before.before.before.before) in omega (arith, i.merges, k.merges)
+slice-reshare-prefix-write-file-2 c = let i = fits c.before.before.before.before.before in let k = same (planned_of c.before.before.before.before.before) in omega (arith, i.merges, k.merges)
 
 slice-aggregate-write-file-2 : tie.Need-slice-aggregate-write-file-2
-slice-aggregate-write-file-2 c = let i = fits c.before.before.before.before.before.before in let k = same (planned-of c.before.before.before.before.before.before) in front _ _ (omega (arith, i.merges, k.merges))
+slice-aggregate-write-file-2 c = let i = fits c.before.before.before.before.before.before in let k = same (planned_of c.before.before.before.before.before.before) in front _ _ (omega (arith, i.merges, k.merges))
 
 slice-reshare-prefix-write-file-3 : tie.Need-slice-reshare-prefix-write-file-3
-slice-reshare-prefix-write-file-3 c = let i = fits c.before.before.before.before.before.before in let k = same (planned-of c.before.before.before.before.before.before) in omega (arith, i.sizes, k.sizes)
+slice-reshare-prefix-write-file-3 c = let i = fits c.before.before.before.before.before.before in let k = same (planned_of c.before.before.before.before.before.before) in omega (arith, i.sizes, k.sizes)
 
 slice-aggregate-write-file-3 : tie.Need-slice-aggregate-write-file-3
-slice-aggregate-write-file-3 c = let i = fits c.before.before.before.before.before.before.before in let k = same (planned-of c.before.before.before.before.before.before.before) in front _ _ (omega (arith, i.sizes, k.sizes))
+slice-aggregate-write-file-3 c = let i = fits c.before.before.before.before.before.before.before in let k = same (planned_of c.before.before.before.before.before.before.before) in front _ _ (omega (arith, i.sizes, k.sizes))
 
 slice-reshare-prefix-write-file-4 : tie.Need-slice-reshare-prefix-write-file-4
-slice-reshare-prefix-write-file-4 c = let i = fits c.before.before.before.before.before.before.before in let k = same (planned-of c.before.before.before.before.before.before.before) in omega (arith, i.rotations, k.rotations)
+slice-reshare-prefix-write-file-4 c = let i = fits c.before.before.before.before.before.before.before in let k = same (planned_of c.before.before.before.before.before.before.before) in omega (arith, i.rotations, k.rotations)
 
 slice-aggregate-write-file-4 : tie.Need-slice-aggregate-write-file-4
-slice-aggregate-write-file-4 c = let i = fits c.before.before.before.before.before.before.before.before in let k = same (planned-of c.before.before.before.before.before.before.before.before) in front _ _ (omega (arith, i.rotations, k.rotations))
+slice-aggregate-write-file-4 c = let i = fits c.before.before.before.before.before.before.before.before in let k = same (planned_of c.before.before.before.before.before.before.before.before) in front _ _ (omega (arith, i.rotations, k.rotations))
 
 slice-reshare-prefix-write-file-5 : tie.Need-slice-reshare-prefix-write-file-5
-slice-reshare-prefix-write-file-5 c = let i = fits c.before.before.before.before.before.before.before.before in let k = same (planned-of c.before.before.before.before.before.before.before.before) in omega (arith, i.promotions, k.promotions)
+slice-reshare-prefix-write-file-5 c = let i = fits c.before.before.before.before.before.before.before.before in let k = same (planned_of c.before.before.before.before.before.before.before.before) in omega (arith, i.promotions, k.promotions)
 
 slice-aggregate-write-file-5 : tie.Need-slice-aggregate-write-file-5
-slice-aggregate-write-file-5 c = let i = fits c.before.before.before.before.before.before.before.before.before in let k = same (planned-of c.before.before.before.before.before.before.before.before.before) in front _ _ (omega (arith, i.promotions, k.promotions))
+slice-aggregate-write-file-5 c = let i = fits c.before.before.before.before.before.before.before.before.before in let k = same (planned_of c.before.before.before.before.before.before.before.before.before) in front _ _ (omega (arith, i.promotions, k.promotions))
 
 slice-reshare-prefix-write-file-6 : tie.Need-slice-reshare-prefix-write-file-6
-slice-reshare-prefix-write-file-6 c = let i = fits c.before.before.before.before.before.before.before.before.before in let k = same (planned-of c.before.before.before.before.before.before.before.before.before) in omega (arith, i.measurements, k.measurements)
+slice-reshare-prefix-write-file-6 c = let i = fits c.before.before.before.before.before.before.before.before.before in let k = same (planned_of c.before.before.before.before.before.before.before.before.before) in omega (arith, i.measurements, k.measurements)
 
 slice-aggregate-write-file-6 : tie.Need-slice-aggregate-write-file-6
-slice-aggregate-write-file-6 c = let i = fits c.before.before.before.before.before.before.before.before.before.before in let k = same (planned-of c.before.before.before.before.before.before.before.before.before.before) in front _ _ (omega (arith, i.measurements, k.measurements))
+slice-aggregate-write-file-6 c = let i = fits c.before.before.before.before.before.before.before.before.before.before in let k = same (planned_of c.before.before.before.before.before.before.before.before.before.before) in front _ _ (omega (arith, i.measurements, k.measurements))
 
 write-file-requires : tie.Need-write-file-requires
 write-file-requires c κs =
     let w = c.before.before.before.before.before.before.before.before.before.before.before in
     let i = fits w in
-    let k = same (planned-of w) in
+    let k = same (planned_of w) in
     let u = (plan-of w).used in
-    let m = between-of (planned-of w) in
+    let m = between-of (planned_of w) in
     let room = c.before.before.before.before.before.before.before.if1.false in
     let words = c.before.before.before.before.before.before.before.before.word_count.ensures in
     let steps = front u.steps m.steps (omega (arith, i.steps, k.steps)) in
@@ -156,7 +156,7 @@ write-file-requires c κs =
     omega (arith, room, words, steps, merges, sizes, rotations, promotions, measurements)
 
 mul-t35 : tie.Need-overflow-mul-t35
-mul-t35 c = let room = c.before.before.before.before.before.before.before.before.before.before.if1.false in omega (arith, room, start_of (planned-of c.before.before.before.before.before.before.before.before.before.before.before.before.before.before))
+mul-t35 c = let room = c.before.before.before.before.before.before.before.before.before.before.if1.false in omega (arith, room, start_of (planned_of c.before.before.before.before.before.before.before.before.before.before.before.before.before.before))
 
 same-length-9 : tie.Need-same-length-9
 same-length-9 c = search rules
@@ -187,7 +187,7 @@ returns-2 c =
     let told = c.before.before.before.before.before.planned.given in
     let call = c.before.before.before.before.before.before.before.before.before.before.before.before.before.before.before.before.before.before.before.before.before in
     let s = start_of call in
-    stores-refused s.args.head s.args.records.now (before_of s) (between-of call) told.0.0 told.0.1.0 s.args.file.now c.before.before.clear-bytes.new.0
+    stores_refused s.args.head s.args.records.now (before_of s) (between-of call) told.0.0 told.0.1.0 s.args.file.now c.before.before.clear-bytes.new.0
     (subst (λ (r : Planned). Answers s.args.head s.args.records.now (before_of s) (between-of call) r) told.1 call.build-active-component-plan.ensures)
     c.before.before.clear-bytes.ensures
 
@@ -218,11 +218,11 @@ same-length-24 c = search rules
 returns-3 : tie.Need-returns-3
 returns-3 c =
     let w = c.before.before.before.before.before.before.before.before.before.before.before.before.before.before in
-    let s = start_of (planned-of w) in
+    let s = start_of (planned_of w) in
     let room = c.before.before.before.before.before.before.before.before.before.before.if1.false in
     let words = c.before.before.before.before.before.before.before.before.before.before.before.word_count.ensures in
-    subst (λ (n : ℕ). Stores s.args.head s.args.records.now (before_of s) (between-of (planned-of w)) s.args.file.now c.before.before.write-file.new.1.1.1.1.1.1.1.0 (S.File (8 * n))) (sym words)
-    (stores-file s.args.head s.args.records.now (before_of s) (between-of (planned-of w)) (plan-of w) (answers w) s.args.file.now c.before.before.write-file.new.1.1.1.1.1.1.1.0
+    subst (λ (n : ℕ). Stores s.args.head s.args.records.now (before_of s) (between-of (planned_of w)) s.args.file.now c.before.before.write-file.new.1.1.1.1.1.1.1.0 (S.File (8 * n))) (sym words)
+    (stores_file s.args.head s.args.records.now (before_of s) (between-of (planned_of w)) (plan-of w) (answers w) s.args.file.now c.before.before.write-file.new.1.1.1.1.1.1.1.0
     (omega (arith, room, words)) c.before.before.write-file.ensures)
 
 pub store_spec : {M : Type 1} → statement M

@@ -6,9 +6,9 @@ use native.Mathlib.Omega.{arith}
 use lib.ListN.{length, take}
 use lib.Seq.{length-take-le}
 use Rattle.definition.specs.Plan.{padded}
-use Rattle.file_words.specs.Words.{wordsAt}
-use Rattle.file_words.proofs.Bytes.{length-words}
-use Rattle.stored_plan.proofs.Sections.{section-held}
+use Rattle.file_words.specs.Words.{words_at}
+use Rattle.file_words.proofs.Bytes.{length_words}
+use Rattle.stored_plan.proofs.Sections.{section_held}
 use borrow.Author.Rules.{rules}
 use Rattle.stored_plan.proofs.get_section.Statement.{statement}
 use Rattle.stored_plan.proofs.get_section.Tie as tie
@@ -58,10 +58,10 @@ returns c =
     let n = second.word-at2.result in
     let room : n ≤ length output = omega (arith, start.requires.room, second.word-at2.ensures) in
     let here = ap (λ (k : ℕ). length (take k output)) (sub-zero n) ∙ length-take-le n output room in
-    let read = call.get-words.ensures ∙ ap (λ (k : ℕ). wordsAt file first.word-at.result k) here in
-    let long = ap length read ∙ length-words file first.word-at.result n in
-    section-held output call.get-words.new.1.1.0 cleared.clear-from.new.0 n room long cleared.clear-from.ensures
-    ∙ ap (padded (length output)) (read ∙ ap₂ (λ (s k : ℕ). wordsAt file s k) first.word-at.ensures second.word-at2.ensures)
+    let read = call.get-words.ensures ∙ ap (λ (k : ℕ). words_at file first.word-at.result k) here in
+    let long = ap length read ∙ length_words file first.word-at.result n in
+    section_held output call.get-words.new.1.1.0 cleared.clear-from.new.0 n room long cleared.clear-from.ensures
+    ∙ ap (padded (length output)) (read ∙ ap₂ (λ (s k : ℕ). words_at file s k) first.word-at.ensures second.word-at2.ensures)
 
 pub get-section-spec : {M : Type 1} → statement M
 get-section-spec =

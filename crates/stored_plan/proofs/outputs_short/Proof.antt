@@ -1,6 +1,6 @@
 -- `outputs_short` meets its contract: each return has shown by the tests before it which of the six comparisons hold.
 use borrow.Author.Tests.{lt-ltb, le-ltb}
-use Rattle.stored_plan.proofs.Flags.{last-of-six}
+use Rattle.stored_plan.proofs.Flags.{last_of_six}
 use Rattle.stored_plan.proofs.outputs_short.Statement.{statement}
 use Rattle.stored_plan.proofs.outputs_short.Tie as tie
 
@@ -43,7 +43,7 @@ returns-5 c =
 
 returns-6 : tie.Need-returns-6
 returns-6 c =
-    last-of-six _ _ _ _ _ _ (le-ltb _ _ c.before.before.before.before.before.before.before.before.before.before.before.before.before.before.if1.false)
+    last_of_six _ _ _ _ _ _ (le-ltb _ _ c.before.before.before.before.before.before.before.before.before.before.before.before.before.before.if1.false)
     (le-ltb _ _ c.before.before.before.before.before.before.before.before.before.before.before.if2.false)
     (le-ltb _ _ c.before.before.before.before.before.before.before.before.if3.false)
     (le-ltb _ _ c.before.before.before.before.before.if4.false)

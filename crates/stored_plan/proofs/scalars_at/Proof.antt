@@ -3,7 +3,7 @@ use mathlib.Core.Path.{sym, ap, ◌∙◌}
 use mathlib.Core.List.{List, ◌∷◌}
 use Prim.Native.Nat.{ℕ}
 use native.Mathlib.Numerals.{add-one}
-use Rattle.file_words.specs.Words.{word_at, wordsAt}
+use Rattle.file_words.specs.Words.{word_at, words_at}
 use Rattle.file_words.proofs.Bytes.{words_are}
 use borrow.Author.Rules.{rules}
 use Rattle.stored_plan.proofs.scalars_at.Statement.{statement}
@@ -68,7 +68,7 @@ returns c =
       c.before.before.word-at6.ensures,
       c.before.word-at7.ensures,
       c.word-at8.ensures,
-    ) (sym (ap (λ (l : List ℕ). word_at file at ∷ l) (ap (λ (k : ℕ). wordsAt file k 7) (sym (add-one at)) ∙ words_are file at 1 7)))
+    ) (sym (ap (λ (l : List ℕ). word_at file at ∷ l) (ap (λ (k : ℕ). words_at file k 7) (sym (add-one at)) ∙ words_are file at 1 7)))
 
 pub scalars-at-spec : {M : Type 1} → statement M
 scalars-at-spec =

@@ -1,8 +1,8 @@
 -- `tally::join_of` meets its contract. The loop's invariant: the sums so far with those of the sources from i on are those of all the sources.
 use Rattle.std.proofs.Common.{◌≡◌, ℕ, ◌+◌, ◌-◌, ◌%◌, ◌^◌, ◌<◌, ◌≤◌, false, length, get_or, drop, pos, sym, ap, ◌∙◌, mod-lt, zero-add, arith, rules}
 use lib.Ieee.{fin, of_bits}
-use Rattle.tally.specs.Tally.{sizesOf, powers, costIn, wholeCostIn}
-use Rattle.tally.proofs.Sums.{sizes-at, powers-at, cost-next, whole-next, all-joined}
+use Rattle.tally.specs.Tally.{sizes_of, powers, cost_in, whole_cost_in}
+use Rattle.tally.proofs.Sums.{sizes_at, powers_at, cost_next, whole_next, all_joined}
 use Rattle.tally.proofs.join_of.Statement.{statement}
 use Rattle.tally.proofs.join_of.Tie as tie
 
@@ -10,13 +10,13 @@ abbrev invariant-loop : tie.invariant-loop
 invariant-loop size sources target grown₀ freed₀ cost₀ whole-cost₀ i₀ grown freed cost whole-cost i =
     (1 ≤ i)
     × (i ≤ length sources)
-    × (grown + sizesOf size (drop i sources) ≡ sizesOf size sources)
+    × (grown + sizes_of size (drop i sources) ≡ sizes_of size sources)
     × (freed + powers size (drop i sources) ≡ powers size sources)
-    × (costIn size grown cost (drop i sources)
-    ≡ costIn size (get_or size (get_or sources 0 0) 0) (fin false 0 (pos 0)) (drop 1 sources))
+    × (cost_in size grown cost (drop i sources)
+    ≡ cost_in size (get_or size (get_or sources 0 0) 0) (fin false 0 (pos 0)) (drop 1 sources))
     × (whole-cost < 2 ^ 64)
-    × ((whole-cost + wholeCostIn size grown (drop i sources)) % 2 ^ 64
-    ≡ wholeCostIn size (get_or size (get_or sources 0 0) 0) (drop 1 sources) % 2 ^ 64)
+    × ((whole-cost + whole_cost_in size grown (drop i sources)) % 2 ^ 64
+    ≡ whole_cost_in size (get_or size (get_or sources 0 0) 0) (drop 1 sources) % 2 ^ 64)
 
 abbrev decreases-loop : tie.decreases-loop
 decreases-loop size sources target grown₀ freed₀ cost₀ whole-cost₀ i₀ grown freed cost whole-cost i = length sources - i
@@ -33,7 +33,7 @@ power-requires c κs =
     omega (
       arith,
       c.size-at.ensures,
-      sizes-at start.args.size.now start.args.sources.now 0 start.requires.some,
+      sizes_at start.args.size.now start.args.sources.now 0 start.requires.some,
       start.requires.few,
     )
 
@@ -45,13 +45,13 @@ loop-holds c =
     let sources = start.args.sources.now in (
       omega arith,
       omega (arith, start.requires.some),
-      omega (arith, c.before.size-at.ensures, sizes-at size sources 0 start.requires.some),
+      omega (arith, c.before.size-at.ensures, sizes_at size sources 0 start.requires.some),
       ap (λ (n : ℕ). n + powers size (drop 1 sources)) (c.power.ensures ∙ ap (λ (n : ℕ). 2 ^ n) c.before.size-at.ensures)
-          ∙ sym (powers-at size sources 0 start.requires.some),
-      ap (λ (n : ℕ). costIn size n (fin false 0 (pos 0)) (drop 1 sources)) c.before.size-at.ensures,
+          ∙ sym (powers_at size sources 0 start.requires.some),
+      ap (λ (n : ℕ). cost_in size n (fin false 0 (pos 0)) (drop 1 sources)) c.before.size-at.ensures,
       omega arith,
-      ap (λ (n : ℕ). n % 2 ^ 64) (zero-add (wholeCostIn size c.before.size-at.result (drop 1 sources))
-          ∙ ap (λ (n : ℕ). wholeCostIn size n (drop 1 sources)) c.before.size-at.ensures),
+      ap (λ (n : ℕ). n % 2 ^ 64) (zero-add (whole_cost_in size c.before.size-at.result (drop 1 sources))
+          ∙ ap (λ (n : ℕ). whole_cost_in size n (drop 1 sources)) c.before.size-at.ensures),
     )
 
 mul-size-at : tie.Need-overflow-mul-size-at invariant-loop decreases-loop
@@ -71,7 +71,7 @@ grown-small c =
     omega (
       arith,
       c.size-at2.ensures,
-      sizes-at start.args.size.now start.args.sources.now turn.before.loop.i turn.loop-test.true,
+      sizes_at start.args.size.now start.args.sources.now turn.before.loop.i turn.loop-test.true,
       turn.before.loop.invariant.2,
       start.requires.few,
     )
@@ -89,7 +89,7 @@ add-freed c =
     omega (
       arith,
       c.power2.ensures ∙ ap (λ (n : ℕ). 2 ^ n) c.before.size-at2.ensures,
-      powers-at start.args.size.now start.args.sources.now turn.before.loop.i turn.loop-test.true,
+      powers_at start.args.size.now start.args.sources.now turn.before.loop.i turn.loop-test.true,
       turn.before.loop.invariant.3,
       start.requires.fits,
     )
@@ -119,14 +119,14 @@ loop-again c =
     let more = c.before.before.before.before.size-at2.ensures in (
       omega arith,
       omega (arith, turn.loop-test.true),
-      omega (arith, more, sizes-at size sources turn.before.loop.i turn.loop-test.true, turn.before.loop.invariant.2),
+      omega (arith, more, sizes_at size sources turn.before.loop.i turn.loop-test.true, turn.before.loop.invariant.2),
       omega (
         arith,
         c.before.before.before.power2.ensures ∙ ap (λ (n : ℕ). 2 ^ n) more,
-        powers-at size sources turn.before.loop.i turn.loop-test.true,
+        powers_at size sources turn.before.loop.i turn.loop-test.true,
         turn.before.loop.invariant.3,
       ),
-      cost-next
+      cost_next
           size
           sources
           turn.before.loop.i
@@ -139,7 +139,7 @@ loop-again c =
           c.before.before.exact-exp2.ensures
           ∙ turn.before.loop.invariant.4,
       omega (arith, c.wrapping-add-u64.ensures, mod-lt (turn.before.loop.whole-cost + c.before.double-low.result) {m = 2 ^ 64} (omega arith)),
-      whole-next
+      whole_next
           size
           sources
           turn.before.loop.i
@@ -159,7 +159,7 @@ returns : tie.Need-returns invariant-loop decreases-loop
 returns c =
     let turn = c.before.loop in
     let start = c.before.before.before.before.before.before in
-    all-joined
+    all_joined
     start.args.size.now
     start.args.sources.now
     turn.i

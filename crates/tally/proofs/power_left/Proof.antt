@@ -1,4 +1,4 @@
--- `tally::power_left` meets its contract: each branch is the case of `powerLeft` that its test tells.
+-- `tally::power_left` meets its contract: each branch is the case of `power_left` that its test tells.
 use Rattle.std.proofs.Common.{arith, rules, le-leb}
 use borrow.Author.Tests.{lt-leb}
 use Rattle.tally.proofs.power_left.Statement.{statement}

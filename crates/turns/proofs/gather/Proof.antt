@@ -6,28 +6,28 @@ use native.Mathlib.Omega.{arith}
 use lib.ListN.{length, take, drop, length-take, length-drop}
 use borrow.Rule.Slice.PartMut.{put_mid}
 use Rattle.outputs.specs.Buffers.{patch}
-use Rattle.outputs.proofs.Parts.{part-written}
-use Rattle.positions.specs.Positions.{picked, reachedMask, sourcesIn}
-use Rattle.tally.specs.Tally.{Countable, joiningOf}
-use Rattle.turns.specs.Turns.{sourcesAt}
-use Rattle.turns.proofs.Patches.{part-of-patch, patch-length}
+use Rattle.outputs.proofs.Parts.{part_written}
+use Rattle.positions.specs.Positions.{picked, reached_mask, sources_in}
+use Rattle.tally.specs.Tally.{Countable, joining_of}
+use Rattle.turns.specs.Turns.{sources_at}
+use Rattle.turns.proofs.Patches.{part_of_patch, patch_length}
 use borrow.Author.Rules.{rules}
 use Rattle.turns.proofs.gather.Statement.{statement}
 use Rattle.turns.proofs.gather.Tie as tie
 
 abbrev Sources : tie.Start → List ℕ
-Sources s = sourcesAt s.args.component.now s.args.size.now s.args.width s.args.x s.args.z
+Sources s = sources_at s.args.component.now s.args.size.now s.args.width s.args.x s.args.z
 
 -- the sources of the mask that was made are those of the contract
-reached : (c : tie.After-reached-positions) → sourcesIn c.before.before.before.before.args.size.now (picked c.reached-positions.result c.before.before.before.before.args.component.now) ≡ Sources c.before.before.before.before
+reached : (c : tie.After-reached-positions) → sources_in c.before.before.before.before.args.size.now (picked c.reached-positions.result c.before.before.before.before.args.component.now) ≡ Sources c.before.before.before.before
 reached c =
     let a = c.before.before.before.before.args in
     let x = c.before.before.below-width.ensures in
     let z = c.before.below-width2.ensures in
     let mask = c.reached-positions.ensures
-    ∙ ap (λ (m : ℕ). reachedMask m c.before.below-width2.result) x
-    ∙ ap (λ (m : ℕ). reachedMask (a.x % 2 ^ a.width) m) z in
-    ap (λ (m : ℕ). sourcesIn a.size.now (picked m a.component.now)) mask
+    ∙ ap (λ (m : ℕ). reached_mask m c.before.below-width2.result) x
+    ∙ ap (λ (m : ℕ). reached_mask (a.x % 2 ^ a.width) m) z in
+    ap (λ (m : ℕ). sources_in a.size.now (picked m a.component.now)) mask
 
 count : (c : tie.After-write-sources) → length (Sources c.before.before.before.before.before.before) ≡ c.write-sources.result
 count c = sym (c.write-sources.ensures.0 ∙ ap (λ (ws : List ℕ). length ws) (reached c.before.before))
@@ -39,7 +39,7 @@ Whole c = put_mid c.before.before.before.before.before.before.args.offset (lengt
 written : (c : tie.After-write-sources) → Whole c ≡ patch c.before.before.before.before.before.before.args.offset (Sources c.before.before.before.before.before.before) c.before.before.before.before.before.before.args.merges.now
 written c =
     let a = c.before.before.before.before.before.before.args in
-    part-written a.offset c.write-sources.result (Sources c.before.before.before.before.before.before) a.merges.now c.write-sources.new.1.1.1.0 (count c)
+    part_written a.offset c.write-sources.result (Sources c.before.before.before.before.before.before) a.merges.now c.write-sources.new.1.1.1.0 (count c)
     (c.write-sources.ensures.1
     ∙ ap (λ (ws : List ℕ). ws ++ drop c.write-sources.result (take (length a.merges.now - a.offset) (drop a.offset a.merges.now))) (reached c.before.before))
 
@@ -52,7 +52,7 @@ read c =
     let fits = c.before.before.before.before.before.before.requires.written in
     let long = count c in
     ap (λ (l : List ℕ). take n (drop a.offset l)) (written c)
-    ∙ part-of-patch a.offset n (Sources c.before.before.before.before.before.before) a.merges.now (omega arith) (omega arith)
+    ∙ part_of_patch a.offset n (Sources c.before.before.before.before.before.before) a.merges.now (omega arith) (omega arith)
 
 below-width-requires : tie.Need-below-width-requires
 below-width-requires c κs = search rules
@@ -102,7 +102,7 @@ part-join-of-end c =
     let s = c.before.before.before.before.before.before.before.before.before in
     let long = count c.before.before.before in
     let fits = s.requires.written in
-    let whole = ap (λ (l : List ℕ). length l) (written c.before.before.before) ∙ patch-length s.args.offset (Sources s) s.args.merges.now fits in
+    let whole = ap (λ (l : List ℕ). length l) (written c.before.before.before) ∙ patch_length s.args.offset (Sources s) s.args.merges.now fits in
     subst (λ (n : ℕ). s.args.offset + c.before.before.before.write-sources.result ≤ n) (sym whole) (omega arith)
 
 join-of-requires : tie.Need-join-of-requires
@@ -112,7 +112,7 @@ same_length : tie.Need-same-length
 same_length c = search rules
 
 returns : tie.Need-returns
-returns c = (c.join-of.ensures ∙ ap (λ (ws : List ℕ). joiningOf c.before.before.before.before.before.before.before.before.before.before.before.args.size.now ws) (read c.before.before.before.before.before), written c.before.before.before.before.before)
+returns c = (c.join-of.ensures ∙ ap (λ (ws : List ℕ). joining_of c.before.before.before.before.before.before.before.before.before.before.before.args.size.now ws) (read c.before.before.before.before.before), written c.before.before.before.before.before)
 
 pub gather-spec : {M : Type 1} → statement M
 gather-spec =

@@ -2,7 +2,7 @@
 use mathlib.Core.Path.{ap, ◌∙◌}
 use Prim.Native.Nat.{ℕ, ◌%◌, ◌^◌}
 use Rattle.kernels.specs.Active.{action}
-use Rattle.positions.specs.Positions.{localOf}
+use Rattle.positions.specs.Positions.{local_of}
 use borrow.Author.Rules.{rules}
 use Rattle.turns.proofs.local_action.Statement.{statement}
 use Rattle.turns.proofs.local_action.Tie as tie
@@ -25,11 +25,11 @@ new-requires c κs = search rules
 returns : tie.Need-returns
 returns c =
     let a = c.before.before.before.before.before.args in
-    let x = c.before.before.before.local-mask.ensures ∙ ap (λ (m : ℕ). localOf m a.place.now) c.before.before.before.before.below-width.ensures in
-    let z = c.before.local-mask2.ensures ∙ ap (λ (m : ℕ). localOf m a.place.now) c.before.before.below-width2.ensures in
+    let x = c.before.before.before.local-mask.ensures ∙ ap (λ (m : ℕ). local_of m a.place.now) c.before.before.before.before.below-width.ensures in
+    let z = c.before.local-mask2.ensures ∙ ap (λ (m : ℕ). local_of m a.place.now) c.before.before.below-width2.ensures in
     c.new.ensures
     ∙ ap (λ (m : ℕ). action a.size m c.before.local-mask2.result a.phase) x
-    ∙ ap (λ (m : ℕ). action a.size (localOf (a.x % 2 ^ a.width) a.place.now) m a.phase) z
+    ∙ ap (λ (m : ℕ). action a.size (local_of (a.x % 2 ^ a.width) a.place.now) m a.phase) z
 
 pub local-action-spec : {M : Type 1} → statement M
 local-action-spec =

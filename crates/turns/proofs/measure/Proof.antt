@@ -7,31 +7,31 @@ use native.Mathlib.Omega.{arith}
 use lib.Dec.{eqb, leb}
 use lib.ListN.{get_or}
 use borrow.Author.Tests.{leb-false}
-use Rattle.kernels.specs.Active.{measurement, measurementOf}
+use Rattle.kernels.specs.Active.{measurement, measurement_of}
 use Rattle.kernels.specs.declared.active.ActivePauliAction.{ActivePauliAction}
-use Rattle.definition.specs.Walk.{measurementRow}
+use Rattle.definition.specs.Walk.{measurement_row}
 use Rattle.outputs.specs.Buffers.{patch}
 use Rattle.rows.specs.declared.RowHead.{RowHead}
-use Rattle.turns.specs.Turns.{localActionOf, measurementAnswer}
-use Rattle.turns.proofs.Answers.{settled-given, settled-refused, tests-refused, tests-passed}
+use Rattle.turns.specs.Turns.{local_action_of, measurement_answer}
+use Rattle.turns.proofs.Answers.{settled_given, settled_refused, tests_refused, tests_passed}
 use borrow.Author.Rules.{rules}
 use Rattle.turns.proofs.measure.Statement.{statement}
 use Rattle.turns.proofs.measure.Tie as tie
 
 -- the three tests were passed
-passed : (c : tie.Else1) → (let a = c.before.before.before.before.before.args in (measurementAnswer a.limit a.component.now a.place.now a.x a.z a.phase a.pivot a.width a.join ≡ measurement a.limit (localActionOf a.place.now a.x a.z a.phase a.width a.join.size) a.phase (get_or a.place.now a.pivot 0)) × (leb a.width a.pivot ≡ false))
+passed : (c : tie.Else1) → (let a = c.before.before.before.before.before.args in (measurement_answer a.limit a.component.now a.place.now a.x a.z a.phase a.pivot a.width a.join ≡ measurement a.limit (local_action_of a.place.now a.x a.z a.phase a.width a.join.size) a.phase (get_or a.place.now a.pivot 0)) × (leb a.width a.pivot ≡ false))
 passed c =
     let a = c.before.before.before.before.before.args in
-    tests-passed (leb a.limit a.join.size) (leb a.width a.pivot) (eqb (get_or a.component.now a.pivot 0) a.join.target) (measurement a.limit (localActionOf a.place.now a.x a.z a.phase a.width a.join.size) a.phase (get_or a.place.now a.pivot 0)) (sym c.before.pivot-number.ensures ∙ c.if1.false)
+    tests_passed (leb a.limit a.join.size) (leb a.width a.pivot) (eqb (get_or a.component.now a.pivot 0) a.join.target) (measurement a.limit (local_action_of a.place.now a.x a.z a.phase a.width a.join.size) a.phase (get_or a.place.now a.pivot 0)) (sym c.before.pivot-number.ensures ∙ c.if1.false)
 
 -- the kernel's answer is that of the contract
-answer-is : (c : tie.After-with-pivot) → (let a = c.before.before.before.before.before.before.before.before.before.args in measurementAnswer a.limit a.component.now a.place.now a.x a.z a.phase a.pivot a.width a.join ≡ measurementOf c.with-pivot.result)
-answer-is c =
+answer_is : (c : tie.After-with-pivot) → (let a = c.before.before.before.before.before.before.before.before.before.args in measurement_answer a.limit a.component.now a.place.now a.x a.z a.phase a.pivot a.width a.join ≡ measurement_of c.with-pivot.result)
+answer_is c =
     let a = c.before.before.before.before.before.before.before.before.before.args in
     (passed c.before.before.before.before).0
     ∙ sym (c.with-pivot.ensures
     ∙ ap (λ (act : ActivePauliAction). measurement a.limit act a.phase c.before.wide8.result) c.before.before.before.local-action.ensures
-    ∙ ap (λ (p : ℕ). measurement a.limit (localActionOf a.place.now a.x a.z a.phase a.width a.join.size) a.phase p) c.before.wide8.ensures)
+    ∙ ap (λ (p : ℕ). measurement a.limit (local_action_of a.place.now a.x a.z a.phase a.width a.join.size) a.phase p) c.before.wide8.ensures)
 
 pivot-number-requires : tie.Need-pivot-number-requires
 pivot-number-requires c κs = search rules
@@ -39,7 +39,7 @@ pivot-number-requires c κs = search rules
 returns : tie.Need-returns
 returns c =
     let a = c.before.before.before.before.before.args in
-    settled-refused (tests-refused (leb a.limit a.join.size) (leb a.width a.pivot) (eqb (get_or a.component.now a.pivot 0) a.join.target) (measurement a.limit (localActionOf a.place.now a.x a.z a.phase a.width a.join.size) a.phase (get_or a.place.now a.pivot 0)) c.before.pivot-number.result c.before.pivot-number.ensures c.if1.true) refl
+    settled_refused (tests_refused (leb a.limit a.join.size) (leb a.width a.pivot) (eqb (get_or a.component.now a.pivot 0) a.join.target) (measurement a.limit (local_action_of a.place.now a.x a.z a.phase a.width a.join.size) a.phase (get_or a.place.now a.pivot 0)) c.before.pivot-number.result c.before.pivot-number.ensures c.if1.true) refl
 
 local-action-requires : tie.Need-local-action-requires
 local-action-requires c κs = search rules
@@ -94,19 +94,19 @@ measured-requires c κs =
     (s.requires.0.sums, omega (arith, s.well-formed))
 
 returns-2 : tie.Need-returns-2
-returns-2 c = settled-refused (answer-is c.before.before ∙ ap measurementOf c.enum_told.given.1) refl
+returns-2 c = settled_refused (answer_is c.before.before ∙ ap measurement_of c.enum_told.given.1) refl
 
 returns-3 : tie.Need-returns-3
-returns-3 c = settled-refused (answer-is c.before.before ∙ ap measurementOf c.enum-told2.given.1) refl
+returns-3 c = settled_refused (answer_is c.before.before ∙ ap measurement_of c.enum-told2.given.1) refl
 
 returns-4 : tie.Need-returns-4
-returns-4 c = settled-refused (answer-is c.before.before ∙ ap measurementOf c.enum-told3.given.1) refl
+returns-4 c = settled_refused (answer_is c.before.before ∙ ap measurement_of c.enum-told3.given.1) refl
 
 returns-5 : tie.Need-returns-5
-returns-5 c = settled-refused (answer-is c.before.before ∙ ap measurementOf c.enum-told4.given.1) refl
+returns-5 c = settled_refused (answer_is c.before.before ∙ ap measurement_of c.enum-told4.given.1) refl
 
 returns-6 : tie.Need-returns-6
-returns-6 c = settled-refused (answer-is c.before.before ∙ ap measurementOf c.enum-told5.given.1) refl
+returns-6 c = settled_refused (answer_is c.before.before ∙ ap measurement_of c.enum-told5.given.1) refl
 
 same_length : tie.Need-same-length
 same_length c = search rules
@@ -121,12 +121,12 @@ returns-7 : tie.Need-returns-7
 returns-7 c =
     let a = c.before.before.before.before.before.before.before.before.before.before.before.before.before.before.before.before.before.before.before.before.before.before.before.before.before.before.before.args in
     let kernel = c.before.before.before.before.before.before.before.before.before.before.before.before.before.before.before.before.made.given.0.0 in
-    settled-given (answer-is c.before.before.before.before.before.before.before.before.before.before.before.before.before.before.before.before.before.before ∙ ap measurementOf c.before.before.before.before.before.before.before.before.before.before.before.before.before.before.before.before.made.given.1) refl (record {
+    settled_given (answer_is c.before.before.before.before.before.before.before.before.before.before.before.before.before.before.before.before.before.before ∙ ap measurement_of c.before.before.before.before.before.before.before.before.before.before.before.before.before.before.before.before.made.given.1) refl (record {
       sums = c.measured.ensures;
       step = c.before.before.before.before.before.before.before.put_step.ensures;
       size = c.before.before.before.raise-size.ensures;
       row = c.before.before.before.before.before.before.before.before.before.before.before.put-measurement.ensures
-          ∙ ap (λ (h : RowHead). patch (19 * a.tally.measurements) (measurementRow h.component h.merge_offset h.merge_count kernel (eqb a.join.size 1)) a.measurements.now) c.before.before.before.before.before.before.before.before.before.before.before.before.head_of.ensures;
+          ∙ ap (λ (h : RowHead). patch (19 * a.tally.measurements) (measurement_row h.component h.merge_offset h.merge_count kernel (eqb a.join.size 1)) a.measurements.now) c.before.before.before.before.before.before.before.before.before.before.before.before.head_of.ensures;
     })
 
 pub measure-spec : {M : Type 1} → statement M

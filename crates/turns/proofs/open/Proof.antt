@@ -10,24 +10,24 @@ use denote.Enum.Declared.{tag_of}
 use Rattle.records.specs.declared.Instruction.{Instruction}
 use Rattle.records.specs.declared.Instruction.TheVariants.{Rotation, Promotion, RecordMeasurement, RecordDetector, Measurement, Expectation, DormantBranch}
 use Rattle.records.specs.contracts.Instruction.{the_type}
-use Rattle.turns.specs.Turns.{sourcesAt, GatherFits, numberBefore, sourcesBefore}
-use Rattle.turns.proofs.Openings.{rotation-refused, rotation-empty, rotation-some, rotation-asked, measurement-refused, measurement-empty, measurement-some, measurement-asked, opened-none, opened_some}
+use Rattle.turns.specs.Turns.{sources_at, GatherFits, number_before, sources_before}
+use Rattle.turns.proofs.Openings.{rotation_refused, rotation_empty, rotation_some, rotation_asked, measurement_refused, measurement_empty, measurement_some, measurement_asked, opened_none, opened_some}
 use borrow.Author.Rules.{rules}
 use Rattle.turns.proofs.open.Statement.{statement}
 use Rattle.turns.proofs.open.Tie as tie
 
 -- the kinds that join nothing
-joins-nothing : (n : ℕ) → OneOf (1 ∷ 2 ∷ 3 ∷ 5 ∷ 6 ∷ []) n → (n ≡ 0 → ⊥) × (n ≡ 4 → ⊥)
-joins-nothing n (inl e) = (λ z. omega arith, λ z. omega arith)
-joins-nothing n (inr (inl e)) = (λ z. omega arith, λ z. omega arith)
-joins-nothing n (inr (inr (inl e))) = (λ z. omega arith, λ z. omega arith)
-joins-nothing n (inr (inr (inr (inl e)))) = (λ z. omega arith, λ z. omega arith)
-joins-nothing n (inr (inr (inr (inr e)))) = (λ z. omega arith, λ z. omega arith)
+joins_nothing : (n : ℕ) → OneOf (1 ∷ 2 ∷ 3 ∷ 5 ∷ 6 ∷ []) n → (n ≡ 0 → ⊥) × (n ≡ 4 → ⊥)
+joins_nothing n (inl e) = (λ z. omega arith, λ z. omega arith)
+joins_nothing n (inr (inl e)) = (λ z. omega arith, λ z. omega arith)
+joins_nothing n (inr (inr (inl e))) = (λ z. omega arith, λ z. omega arith)
+joins_nothing n (inr (inr (inr (inl e)))) = (λ z. omega arith, λ z. omega arith)
+joins_nothing n (inr (inr (inr (inr e)))) = (λ z. omega arith, λ z. omega arith)
 
-others : (width : ℕ) (sources : ℕ → ℕ → List ℕ) (i : Instruction) → OneOf (1 ∷ 2 ∷ 3 ∷ 5 ∷ 6 ∷ []) (tag_of the_type i) → (numberBefore width i ≡ 0) × (sourcesBefore width sources i ≡ [])
-unfolding numberBefore sourcesBefore
-others width sources (Rotation w x z phase angle sine cosine) k = absurd ((joins-nothing 0 k).0 refl)
-others width sources (Measurement w x z phase pivot) k = absurd ((joins-nothing 4 k).1 refl)
+others : (width : ℕ) (sources : ℕ → ℕ → List ℕ) (i : Instruction) → OneOf (1 ∷ 2 ∷ 3 ∷ 5 ∷ 6 ∷ []) (tag_of the_type i) → (number_before width i ≡ 0) × (sources_before width sources i ≡ [])
+unfolding number_before sources_before
+others width sources (Rotation w x z phase angle sine cosine) k = absurd ((joins_nothing 0 k).0 refl)
+others width sources (Measurement w x z phase pivot) k = absurd ((joins_nothing 4 k).1 refl)
 others width sources Promotion k = (refl, refl)
 others width sources RecordMeasurement k = (refl, refl)
 others width sources RecordDetector k = (refl, refl)
@@ -43,8 +43,8 @@ without-join-requires c κs = search rules
 returns : tie.Need-returns
 returns c =
     let a = c.before.before.before.before.before.before.args in
-    opened-none a.width a.offset a.component.now a.size.now a.merges.now a.instruction 11 c.without-join.result c.without-join.ensures
-    (rotation-refused a.width (sourcesAt a.component.now a.size.now a.width) c.before.before.before.instruction.given.1 c.before.if1.true)
+    opened_none a.width a.offset a.component.now a.size.now a.merges.now a.instruction 11 c.without-join.result c.without-join.ensures
+    (rotation_refused a.width (sources_at a.component.now a.size.now a.width) c.before.before.before.instruction.given.1 c.before.if1.true)
 
 without-join-requires-2 : tie.Need-without-join-requires-2
 without-join-requires-2 c κs = search rules
@@ -52,14 +52,14 @@ without-join-requires-2 c κs = search rules
 returns-2 : tie.Need-returns-2
 returns-2 c =
     let a = c.before.before.before.before.before.before.before.args in
-    opened-none a.width a.offset a.component.now a.size.now a.merges.now a.instruction 0 c.without-join2.result c.without-join2.ensures
-    (rotation-empty a.width (sourcesAt a.component.now a.size.now a.width) c.before.before.before.before.instruction.given.1 c.before.before.if1.false c.before.if2.true)
+    opened_none a.width a.offset a.component.now a.size.now a.merges.now a.instruction 0 c.without-join2.result c.without-join2.ensures
+    (rotation_empty a.width (sources_at a.component.now a.size.now a.width) c.before.before.before.before.instruction.given.1 c.before.before.if1.false c.before.if2.true)
 
 gather-requires : tie.Need-gather-requires
 gather-requires c κs =
     let s = c.before.before.before.before.before.before.before in
     let a = s.args in
-    rotation-asked a.width (λ x z. GatherFits a.component.now a.size.now a.width a.offset (length a.merges.now) x z) c.before.before.before.before.instruction.given.1 s.requires c.before.before.if1.false c.before.if2.false
+    rotation_asked a.width (λ x z. GatherFits a.component.now a.size.now a.width a.offset (length a.merges.now) x z) c.before.before.before.before.instruction.given.1 s.requires c.before.before.if1.false c.before.if2.false
 
 enum-known-instruction-2 : tie.Need-enum-known-instruction-2
 enum-known-instruction-2 c = search rules
@@ -70,8 +70,8 @@ without-join-requires-3 c κs = search rules
 returns-3 : tie.Need-returns-3
 returns-3 c =
     let a = c.before.before.before.before.before.before.args in
-    opened-none a.width a.offset a.component.now a.size.now a.merges.now a.instruction 12 c.without-join3.result c.without-join3.ensures
-    (measurement-refused a.width (sourcesAt a.component.now a.size.now a.width) c.before.before.before.instruction2.given.1 c.before.if3.true)
+    opened_none a.width a.offset a.component.now a.size.now a.merges.now a.instruction 12 c.without-join3.result c.without-join3.ensures
+    (measurement_refused a.width (sources_at a.component.now a.size.now a.width) c.before.before.before.instruction2.given.1 c.before.if3.true)
 
 without-join-requires-4 : tie.Need-without-join-requires-4
 without-join-requires-4 c κs = search rules
@@ -79,14 +79,14 @@ without-join-requires-4 c κs = search rules
 returns-4 : tie.Need-returns-4
 returns-4 c =
     let a = c.before.before.before.before.before.before.before.args in
-    opened-none a.width a.offset a.component.now a.size.now a.merges.now a.instruction 13 c.without-join4.result c.without-join4.ensures
-    (measurement-empty a.width (sourcesAt a.component.now a.size.now a.width) c.before.before.before.before.instruction2.given.1 c.before.before.if3.false c.before.if4.true)
+    opened_none a.width a.offset a.component.now a.size.now a.merges.now a.instruction 13 c.without-join4.result c.without-join4.ensures
+    (measurement_empty a.width (sources_at a.component.now a.size.now a.width) c.before.before.before.before.instruction2.given.1 c.before.before.if3.false c.before.if4.true)
 
 gather-requires-2 : tie.Need-gather-requires-2
 gather-requires-2 c κs =
     let s = c.before.before.before.before.before.before.before in
     let a = s.args in
-    measurement-asked a.width (λ x z. GatherFits a.component.now a.size.now a.width a.offset (length a.merges.now) x z) c.before.before.before.before.instruction2.given.1 s.requires c.before.before.if3.false c.before.if4.false
+    measurement_asked a.width (λ x z. GatherFits a.component.now a.size.now a.width a.offset (length a.merges.now) x z) c.before.before.before.before.instruction2.given.1 s.requires c.before.before.if3.false c.before.if4.false
 
 without-join-requires-5 : tie.Need-without-join-requires-5
 without-join-requires-5 c κs = search rules
@@ -98,7 +98,7 @@ returns-5 : tie.Need-returns-5
 returns-5 c =
     let a = c.before.before.before.before.before.before.before.before.before.before.args in
     opened_some a.width a.offset a.component.now a.size.now a.merges.now a.instruction c.before.before.before.before.before.before.before.instruction.given.0.1.0 c.before.before.before.before.before.before.before.instruction.given.0.1.1.0 c.before.before.gather.result c.before.before.gather.new.1.1.1.1.1.1.0 c.before.before.gather.ensures
-    (rotation-some a.width (sourcesAt a.component.now a.size.now a.width) c.before.before.before.before.before.before.before.instruction.given.1 c.before.before.before.before.before.if1.false c.before.before.before.before.if2.false)
+    (rotation_some a.width (sources_at a.component.now a.size.now a.width) c.before.before.before.before.before.before.before.instruction.given.1 c.before.before.before.before.before.if1.false c.before.before.before.before.if2.false)
 
 same-length-2 : tie.Need-same-length-2
 same-length-2 c = search rules
@@ -107,13 +107,13 @@ returns-6 : tie.Need-returns-6
 returns-6 c =
     let a = c.before.before.before.before.before.before.before.before.before.before.args in
     opened_some a.width a.offset a.component.now a.size.now a.merges.now a.instruction c.before.before.before.before.before.before.before.instruction2.given.0.1.0 c.before.before.before.before.before.before.before.instruction2.given.0.1.1.0 c.before.before.gather2.result c.before.before.gather2.new.1.1.1.1.1.1.0 c.before.before.gather2.ensures
-    (measurement-some a.width (sourcesAt a.component.now a.size.now a.width) c.before.before.before.before.before.before.before.instruction2.given.1 c.before.before.before.before.before.if3.false c.before.before.before.before.if4.false)
+    (measurement_some a.width (sources_at a.component.now a.size.now a.width) c.before.before.before.before.before.before.before.instruction2.given.1 c.before.before.before.before.before.if3.false c.before.before.before.before.if4.false)
 
 returns-7 : tie.Need-returns-7
 returns-7 c =
     let a = c.before.before.before.args in
-    opened-none a.width a.offset a.component.now a.size.now a.merges.now a.instruction 0 c.without-join5.result c.without-join5.ensures
-    (others a.width (sourcesAt a.component.now a.size.now a.width) a.instruction c.before.match.keys3)
+    opened_none a.width a.offset a.component.now a.size.now a.merges.now a.instruction 0 c.without-join5.result c.without-join5.ensures
+    (others a.width (sources_at a.component.now a.size.now a.width) a.instruction c.before.match.keys3)
 
 pub open_spec : {M : Type 1} → statement M
 open_spec =

@@ -3,20 +3,20 @@
 use mathlib.Core.Path.{◌≡◌, refl, sym, ap, ◌∙◌}
 use Prim.Native.Nat.{◌*◌}
 use native.Mathlib.Omega.{arith}
-use Rattle.kernels.specs.Active.{rotation, rotationOf}
+use Rattle.kernels.specs.Active.{rotation, rotation_of}
 use Rattle.kernels.specs.declared.active.ActivePauliAction.{ActivePauliAction}
-use Rattle.definition.specs.Walk.{rotationRow}
+use Rattle.definition.specs.Walk.{rotation_row}
 use Rattle.outputs.specs.Buffers.{patch}
 use Rattle.rows.specs.declared.RowHead.{RowHead}
-use Rattle.turns.specs.Turns.{rotationAnswer}
-use Rattle.turns.proofs.Answers.{settled-given, settled-refused}
+use Rattle.turns.specs.Turns.{rotation_answer}
+use Rattle.turns.proofs.Answers.{settled_given, settled_refused}
 use borrow.Author.Rules.{rules}
 use Rattle.turns.proofs.rotate.Statement.{statement}
 use Rattle.turns.proofs.rotate.Tie as tie
 
 -- the kernel's answer is that of the contract
-answer-is : (c : tie.After-new) → (let a = c.before.before.before.before.before.args in rotationAnswer a.limit a.place.now a.x a.z a.phase a.angle a.sine a.cosine a.width a.join.size ≡ rotationOf c.new.result)
-answer-is c =
+answer_is : (c : tie.After-new) → (let a = c.before.before.before.before.before.args in rotation_answer a.limit a.place.now a.x a.z a.phase a.angle a.sine a.cosine a.width a.join.size ≡ rotation_of c.new.result)
+answer_is c =
     let a = c.before.before.before.before.before.args in
     sym (c.new.ensures ∙ ap (λ (act : ActivePauliAction). rotation a.limit act a.phase a.angle a.sine a.cosine) c.before.local-action.ensures)
 
@@ -51,7 +51,7 @@ rotated-requires c κs =
     (s.requires.0.sums, omega (arith, s.well-formed))
 
 returns : tie.Need-returns
-returns c = settled-refused (answer-is c.before.before ∙ ap rotationOf c.enum_told.given.1) refl
+returns c = settled_refused (answer_is c.before.before ∙ ap rotation_of c.enum_told.given.1) refl
 
 same_length : tie.Need-same-length
 same_length c = search rules
@@ -66,12 +66,12 @@ returns-2 : tie.Need-returns-2
 returns-2 c =
     let a = c.before.before.before.before.before.before.before.before.before.before.before.before.before.before.before.before.before.before.before.before.before.before.args in
     let kernel = c.before.before.before.before.before.before.before.before.before.before.before.before.before.before.before.made.given.0.0 in
-    settled-given (answer-is c.before.before.before.before.before.before.before.before.before.before.before.before.before.before.before.before.before ∙ ap rotationOf c.before.before.before.before.before.before.before.before.before.before.before.before.before.before.before.made.given.1) refl (record {
+    settled_given (answer_is c.before.before.before.before.before.before.before.before.before.before.before.before.before.before.before.before.before ∙ ap rotation_of c.before.before.before.before.before.before.before.before.before.before.before.before.before.before.before.made.given.1) refl (record {
       sums = c.rotated.ensures;
       step = c.before.before.before.before.before.before.before.put_step.ensures;
       size = c.before.before.before.raise-size.ensures;
       row = c.before.before.before.before.before.before.before.before.before.before.before.put-rotation.ensures
-          ∙ ap (λ (h : RowHead). patch (21 * a.tally.rotations) (rotationRow h.component h.merge_offset h.merge_count kernel) a.rotations.now) c.before.before.before.before.before.before.before.before.before.before.before.before.head_of.ensures;
+          ∙ ap (λ (h : RowHead). patch (21 * a.tally.rotations) (rotation_row h.component h.merge_offset h.merge_count kernel) a.rotations.now) c.before.before.before.before.before.before.before.before.before.before.before.before.head_of.ensures;
     })
 
 pub rotate-spec : {M : Type 1} → statement M

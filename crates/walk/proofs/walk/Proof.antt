@@ -7,34 +7,34 @@ use mathlib.Core.Logic.{inl, inr, ⊎_elim}
 use Prim.Native.Nat.{◌+◌, ◌≤◌}
 use native.Mathlib.Omega.{arith}
 use lib.ListN.{length, get_or, take, drop}
-use Rattle.records.specs.Record.{instructionsOf}
+use Rattle.records.specs.Record.{instructions_of}
 use Rattle.records.specs.declared.Instruction.TheVariants.{DormantBranch}
-use Rattle.records.proofs.Laws.{instruction-at}
+use Rattle.records.proofs.Laws.{instruction_at}
 use Rattle.state.specs.Steps.{Joined}
-use Rattle.turns.specs.Turns.{numberBefore}
-use Rattle.walk.proofs.Looping.{Looping, Met, sources, records-few, join-count, opening, opening-stops, joins, part-fits, part-is, ignored-goes, rotate-asks, rotate-room, rotate-stops, rotate-goes, measure-asks, measure-room, measure-stops, remove-asks, gap-fits, measure-goes, promote-asks, promoted-asks, promote-goes, does-nothing, plain-goes, step_room, quantum-room, ones-fit, begins, count_small, groups-fit, places-fit, finishes}
+use Rattle.turns.specs.Turns.{number_before}
+use Rattle.walk.proofs.Looping.{Looping, Met, sources, records_few, join_count, opening, opening_stops, joins, part_fits, part_is, ignored_goes, rotate_asks, rotate_room, rotate_stops, rotate_goes, measure_asks, measure_room, measure_stops, remove_asks, gap_fits, measure_goes, promote_asks, promoted_asks, promote_goes, does_nothing, plain_goes, step_room, quantum_room, ones_fit, begins, count_small, groups_fit, places_fit, finishes}
 use Rattle.walk.proofs.walk.Statement.{statement}
 use Rattle.walk.proofs.walk.Tie as tie
 
 abbrev invariant-loop : tie.invariant-loop
-invariant-loop limit initial-k records steps₀ merges₀ sizes₀ rotations₀ promotions₀ measurements₀ groups order₀ state₀ tally₀ n i₀ steps merges sizes rotations promotions measurements order state tally i =
-    Looping limit initial-k records n i order state tally (record { steps = steps₀; merges = merges₀; sizes = sizes₀; rotations = rotations₀; promotions = promotions₀; measurements = measurements₀; groups = groups }) (record { steps = steps; merges = merges; sizes = sizes; rotations = rotations; promotions = promotions; measurements = measurements; groups = groups })
+invariant-loop limit initial_k records steps₀ merges₀ sizes₀ rotations₀ promotions₀ measurements₀ groups order₀ state₀ tally₀ n i₀ steps merges sizes rotations promotions measurements order state tally i =
+    Looping limit initial_k records n i order state tally (record { steps = steps₀; merges = merges₀; sizes = sizes₀; rotations = rotations₀; promotions = promotions₀; measurements = measurements₀; groups = groups }) (record { steps = steps; merges = merges; sizes = sizes; rotations = rotations; promotions = promotions; measurements = measurements; groups = groups })
 
 abbrev decreases-loop : tie.decreases-loop
-decreases-loop limit initial-k records steps₀ merges₀ sizes₀ rotations₀ promotions₀ measurements₀ groups order₀ state₀ tally₀ n i₀ steps merges sizes rotations promotions measurements order state tally i =
+decreases-loop limit initial_k records steps₀ merges₀ sizes₀ rotations₀ promotions₀ measurements₀ groups order₀ state₀ tally₀ n i₀ steps merges sizes rotations promotions measurements order state tally i =
     n - i
 
 -- the record that a turn reads
-turn-now : (c : tie.After-read invariant-loop decreases-loop) → get_or (instructionsOf c.before.before.before.before.before.before.before.before.before.before.before.before.before.before.before.before.before.before.args.records.now) c.before.before.loop.i DormantBranch ≡ c.read.result
+turn-now : (c : tie.After-read invariant-loop decreases-loop) → get_or (instructions_of c.before.before.before.before.before.before.before.before.before.before.before.before.before.before.before.before.before.before.args.records.now) c.before.before.loop.i DormantBranch ≡ c.read.result
 turn-now c =
     let words = c.before.before.before.before.before.before.before.before.before.before.before.before.before.before.before.before.before.before.args.records.now in
-    instruction-at words c.before.before.loop.i DormantBranch (omega (arith, c.before.loop-test.true, c.before.before.loop.invariant.count)) ∙ sym c.read.ensures
+    instruction_at words c.before.before.loop.i DormantBranch (omega (arith, c.before.loop-test.true, c.before.before.loop.invariant.count)) ∙ sym c.read.ensures
 
 -- how many sources it has
 counted : (c : tie.After-open invariant-loop decreases-loop)
     → let read = c.before.before.before.before.before in
     c.«open».result.join.count ≡ length (sources read.before.before.loop.invariant read.before.loop-test.true read.read.result (turn-now read))
-counted c = ap (λ j. j.count) c.«open».ensures.1 ∙ (let read = c.before.before.before.before.before in join-count read.before.before.loop.state.size (sources read.before.before.loop.invariant read.before.loop-test.true read.read.result (turn-now read)))
+counted c = ap (λ j. j.count) c.«open».ensures.1 ∙ (let read = c.before.before.before.before.before in join_count read.before.before.loop.state.size (sources read.before.before.loop.invariant read.before.loop-test.true read.read.result (turn-now read)))
 
 -- where they stand
 placed : (c : tie.After-open invariant-loop decreases-loop)
@@ -47,8 +47,8 @@ placed c =
     let read = c.before.before.before.before.before in
     let at = read.before.before.loop in
     let count = counted c in (
-      (let f = part-fits at.invariant read.before.loop-test.true read.read.result (turn-now read) c.«open».new.1.1.1.1.1.0 c.«open».ensures.2 c.«open».auto.1.1.1.1.1.0 in omega arith),
-      part-is at.invariant read.before.loop-test.true read.read.result (turn-now read) c.«open».new.1.1.1.1.1.0 c.«open».ensures.2 c.«open».auto.1.1.1.1.1.0 c.«open».result.join.count count,
+      (let f = part_fits at.invariant read.before.loop-test.true read.read.result (turn-now read) c.«open».new.1.1.1.1.1.0 c.«open».ensures.2 c.«open».auto.1.1.1.1.1.0 in omega arith),
+      part_is at.invariant read.before.loop-test.true read.read.result (turn-now read) c.«open».new.1.1.1.1.1.0 c.«open».ensures.2 c.«open».auto.1.1.1.1.1.0 c.«open».result.join.count count,
     )
 
 -- the state behind the join
@@ -72,7 +72,7 @@ met c =
 -- it was not refused before
 let_through : (c : tie.Else1 invariant-loop decreases-loop)
     → let read = c.before.before.before.before.before.before.before.before in
-    numberBefore read.before.before.loop.state.width read.read.result ≡ 0
+    number_before read.before.before.loop.state.width read.read.result ≡ 0
 let_through c = sym c.before.before.before.«open».ensures.0 ∙ c.if1.false
 
 first-order-requires : tie.Need-first-order-requires invariant-loop decreases-loop
@@ -85,15 +85,15 @@ start-requires-2 : tie.Need-start-requires-2 invariant-loop decreases-loop
 start-requires-2 c κs = search rules
 
 fill-ones-requires : tie.Need-fill-ones-requires invariant-loop decreases-loop
-fill-ones-requires c κs = ones-fit c.before.before.before.before.before.before.before.before.before.before.before.before.requires
+fill-ones-requires c κs = ones_fit c.before.before.before.before.before.before.before.before.before.before.before.before.requires
 
 loop-holds : tie.Need-loop-init invariant-loop decreases-loop
 loop-holds c =
     let first = c.before.before.before.before.before.before.before.before.before.before.before.before.before.before.before in
-    begins first.args.limit first.args.initial-k first.args.records.now _ c.before.before.fill-ones.new.0 c.before.before.before.before.before.before.first-order.result c.before.before.before.before.before.start.result c.before.before.before.before.start2.result first.requires c.before.before.before.before.before.before.first-order.ensures c.before.before.before.before.before.start.ensures c.before.before.before.before.start2.ensures c.before.before.fill-ones.ensures c.before.before.fill-ones.auto.0
+    begins first.args.limit first.args.initial_k first.args.records.now _ c.before.before.fill-ones.new.0 c.before.before.before.before.before.before.first-order.result c.before.before.before.before.before.start.result c.before.before.before.before.start2.result first.requires c.before.before.before.before.before.before.first-order.ensures c.before.before.before.before.before.start.ensures c.before.before.before.before.start2.ensures c.before.before.fill-ones.ensures c.before.before.fill-ones.auto.0
 
 add-i : tie.Need-overflow-add-i invariant-loop decreases-loop
-add-i c = let few = records-few c.before.loop.invariant in omega (arith, c.loop-test.true)
+add-i c = let few = records_few c.before.loop.invariant in omega (arith, c.loop-test.true)
 
 read-requires : tie.Need-read-requires invariant-loop decreases-loop
 read-requires c κs = search rules
@@ -133,7 +133,7 @@ returns c =
     let x = read.read.result in
     let now = turn-now read in
     let opened = c.before.before.before in
-    opening-stops inv more x now opened.«open».result.number _ opened.«open».ensures.0 c.if1.true
+    opening_stops inv more x now opened.«open».result.number _ opened.«open».ensures.0 c.if1.true
 
 add-end : tie.Need-overflow-add-end invariant-loop decreases-loop
 add-end c =
@@ -203,7 +203,7 @@ ignored-requires c κs =
     let more = read.before.loop-test.true in
     let x = read.read.result in
     let now = turn-now read in
-    quantum-room inv more x now
+    quantum_room inv more x now
 
 put-step-requires : tie.Need-put-step-requires invariant-loop decreases-loop
 put-step-requires c κs =
@@ -230,9 +230,9 @@ loop-again c =
     let opened = c.before.before.before.before.before.before.before.before.before.before.before.before.before.before in
     let through = let_through c.before.before.before.before.before.before.before.before.before.before.before in
     let told = c.before.before.before.before.before.before.before.instruction.given.1 in
-    let none-there = sym (counted opened) ∙ c.before.before.before.before.before.if3.true in
+    let none_there = sym (counted opened) ∙ c.before.before.before.before.before.if3.true in
     let done = c.before.before in
-    ignored-goes inv more x now _ _ _ _ _ _ _ told through j2.if2.state c.before.before.before.before.ignored.result _ c.before.before.before.before.ignored.ensures none-there (met j2) done.put_step.ensures opened.«open».ensures.2 refl refl refl refl (record { steps = done.put_step.auto.0 ∙ inv.long.steps; merges = opened.«open».auto.1.1.1.1.1.0 ∙ inv.long.merges; sizes = inv.long.sizes; rotations = inv.long.rotations; promotions = inv.long.promotions; measurements = inv.long.measurements; groups = inv.long.groups })
+    ignored_goes inv more x now _ _ _ _ _ _ _ told through j2.if2.state c.before.before.before.before.ignored.result _ c.before.before.before.before.ignored.ensures none_there (met j2) done.put_step.ensures opened.«open».ensures.2 refl refl refl refl (record { steps = done.put_step.auto.0 ∙ inv.long.steps; merges = opened.«open».auto.1.1.1.1.1.0 ∙ inv.long.merges; sizes = inv.long.sizes; rotations = inv.long.rotations; promotions = inv.long.promotions; measurements = inv.long.measurements; groups = inv.long.groups })
 
 rotate-requires : tie.Need-rotate-requires invariant-loop decreases-loop
 rotate-requires c κs =
@@ -246,7 +246,7 @@ rotate-requires c κs =
     let through = let_through c.before.before.before.before.before.before.before.before.before.before.before in
     let told = c.before.before.before.before.before.before.before.instruction.given.1 in
     let not-zero = c.before.before.before.before.before.if3.false in
-    (rotate-asks inv more x now _ _ _ _ _ _ _ told through (λ e. not-zero (counted opened ∙ e)) j2.if2.state (met j2) opened.«open».result.join opened.«open».ensures.1, rotate-room inv more x now _ _ _ _ _ _ _ told through (λ e. not-zero (counted opened ∙ e)) j2.if2.state (met j2) opened.«open».result.join opened.«open».ensures.1)
+    (rotate_asks inv more x now _ _ _ _ _ _ _ told through (λ e. not-zero (counted opened ∙ e)) j2.if2.state (met j2) opened.«open».result.join opened.«open».ensures.1, rotate_room inv more x now _ _ _ _ _ _ _ told through (λ e. not-zero (counted opened ∙ e)) j2.if2.state (met j2) opened.«open».result.join opened.«open».ensures.1)
 
 same-length-7 : tie.Need-same-length-7 invariant-loop decreases-loop
 same-length-7 c =
@@ -327,7 +327,7 @@ returns-2 c =
     let told = c.before.before.before.before.before.before.before.before.before.before.before.before.before.before.before.instruction.given.1 in
     let not-zero = c.before.before.before.before.before.before.before.before.before.before.before.before.before.if3.false in
     let done = c.before.before.before.before.before.before.before in
-    rotate-stops inv more x now _ _ _ _ _ _ _ told through (λ e. not-zero (counted opened ∙ e)) j2.if2.state (met j2) opened.«open».result.join opened.«open».ensures.1 done.rotate.result.number _ _ done.rotate.ensures c.if4.true
+    rotate_stops inv more x now _ _ _ _ _ _ _ told through (λ e. not-zero (counted opened ∙ e)) j2.if2.state (met j2) opened.«open».result.join opened.«open».ensures.1 done.rotate.result.number _ _ done.rotate.ensures c.if4.true
 
 loop-less-2 : tie.Need-loop-smaller-2 invariant-loop decreases-loop
 loop-less-2 c =
@@ -347,7 +347,7 @@ loop-again-2 c =
     let told = c.before.before.before.before.before.before.before.before.before.before.before.before.before.before.before.before.instruction.given.1 in
     let not-zero = c.before.before.before.before.before.before.before.before.before.before.before.before.before.before.if3.false in
     let done = c.before.before.before.before.before.before.before.before in
-    rotate-goes inv more x now _ _ _ _ _ _ _ told through (λ e. not-zero (counted opened ∙ e)) j2.if2.state (met j2) opened.«open».result.join opened.«open».ensures.1 done.rotate.result.number done.rotate.result.tally _ done.rotate.ensures c.before.if4.false opened.«open».ensures.2 refl refl (record { steps = done.rotate.auto.1.1.1.1.1.1.1.1.1.1.1.1.0 ∙ inv.long.steps; merges = opened.«open».auto.1.1.1.1.1.0 ∙ inv.long.merges; sizes = done.rotate.auto.1.1.1.1.1.1.1.1.1.1.1.1.1.0 ∙ inv.long.sizes; rotations = done.rotate.auto.1.1.1.1.1.1.1.1.1.1.1.1.1.1.0 ∙ inv.long.rotations; promotions = inv.long.promotions; measurements = inv.long.measurements; groups = inv.long.groups })
+    rotate_goes inv more x now _ _ _ _ _ _ _ told through (λ e. not-zero (counted opened ∙ e)) j2.if2.state (met j2) opened.«open».result.join opened.«open».ensures.1 done.rotate.result.number done.rotate.result.tally _ done.rotate.ensures c.before.if4.false opened.«open».ensures.2 refl refl (record { steps = done.rotate.auto.1.1.1.1.1.1.1.1.1.1.1.1.0 ∙ inv.long.steps; merges = opened.«open».auto.1.1.1.1.1.0 ∙ inv.long.merges; sizes = done.rotate.auto.1.1.1.1.1.1.1.1.1.1.1.1.1.0 ∙ inv.long.sizes; rotations = done.rotate.auto.1.1.1.1.1.1.1.1.1.1.1.1.1.1.0 ∙ inv.long.rotations; promotions = inv.long.promotions; measurements = inv.long.measurements; groups = inv.long.groups })
 
 enum_told : tie.Need-enum-told invariant-loop decreases-loop
 enum_told c = search rules
@@ -363,7 +363,7 @@ promote-requires c κs =
     let opened = c.before.before.before.before.before.before.before.before.before.before in
     let through = let_through c.before.before.before.before.before.before.before in
     let told = c.before.before.before.enum_told.given.1 in
-    promote-asks inv more x now told j2.if2.state (met j2)
+    promote_asks inv more x now told j2.if2.state (met j2)
 
 append-requires : tie.Need-append-requires invariant-loop decreases-loop
 append-requires c κs =
@@ -374,7 +374,7 @@ append-requires c κs =
     let now = turn-now read in
     let j2 = c.before.before.before.before.before.before.before.before.before.before.before.before.before in
     let told = c.before.before.before.before.before.before.before.before.before.before.before.enum_told.given.1 in
-    promoted-asks inv more x now told j2.if2.state (met j2)
+    promoted_asks inv more x now told j2.if2.state (met j2)
 
 promote-requires-2 : tie.Need-promote-requires-2 invariant-loop decreases-loop
 promote-requires-2 c κs =
@@ -387,7 +387,7 @@ promote-requires-2 c κs =
     let opened = c.before.before.before.before.before.before.before.before.before.before.before.before.before.before.before.before.before.before.before in
     let through = let_through c.before.before.before.before.before.before.before.before.before.before.before.before.before.before.before.before in
     let told = c.before.before.before.before.before.before.before.before.before.before.before.before.enum_told.given.1 in
-    promoted-asks inv more x now told j2.if2.state (met j2)
+    promoted_asks inv more x now told j2.if2.state (met j2)
 
 loop-less-3 : tie.Need-loop-smaller-3 invariant-loop decreases-loop
 loop-less-3 c =
@@ -406,7 +406,7 @@ loop-again-3 c =
     let through = let_through c.before.before.before.before.before.before.before.before.before.before.before.before.before.before.before.before.before in
     let told = c.before.before.before.before.before.before.before.before.before.before.before.before.before.enum_told.given.1 in
     let done = c.before.before.before.before.before.before.before.before.before in
-    promote-goes inv more x now told j2.if2.state (met j2) done.promote.result _ c.promote2.result c.before.append.new.0 done.promote.ensures c.promote2.ensures c.before.append.ensures opened.«open».ensures.2 refl refl (record { steps = done.promote.auto.1.1.1.1.0 ∙ inv.long.steps; merges = opened.«open».auto.1.1.1.1.1.0 ∙ inv.long.merges; sizes = done.promote.auto.1.1.1.1.1.0 ∙ inv.long.sizes; rotations = inv.long.rotations; promotions = done.promote.auto.1.1.1.1.1.1.0 ∙ inv.long.promotions; measurements = inv.long.measurements; groups = inv.long.groups })
+    promote_goes inv more x now told j2.if2.state (met j2) done.promote.result _ c.promote2.result c.before.append.new.0 done.promote.ensures c.promote2.ensures c.before.append.ensures opened.«open».ensures.2 refl refl (record { steps = done.promote.auto.1.1.1.1.0 ∙ inv.long.steps; merges = opened.«open».auto.1.1.1.1.1.0 ∙ inv.long.merges; sizes = done.promote.auto.1.1.1.1.1.0 ∙ inv.long.sizes; rotations = inv.long.rotations; promotions = done.promote.auto.1.1.1.1.1.1.0 ∙ inv.long.promotions; measurements = inv.long.measurements; groups = inv.long.groups })
 
 enum-known-instruction-2 : tie.Need-enum-known-instruction-2 invariant-loop decreases-loop
 enum-known-instruction-2 c = search rules
@@ -422,7 +422,7 @@ measure-requires c κs =
     let opened = c.before.before.before.before.before.before.before.before.before.before.before.before.before.before in
     let through = let_through c.before.before.before.before.before.before.before.before.before.before.before in
     let told = c.before.before.before.before.before.before.before.instruction2.given.1 in
-    (measure-asks inv more x now _ _ _ _ _ told through j2.if2.state (met j2) opened.«open».result.join opened.«open».ensures.1, measure-room inv more x now _ _ _ _ _ told through j2.if2.state (met j2) opened.«open».result.join opened.«open».ensures.1)
+    (measure_asks inv more x now _ _ _ _ _ told through j2.if2.state (met j2) opened.«open».result.join opened.«open».ensures.1, measure_room inv more x now _ _ _ _ _ told through j2.if2.state (met j2) opened.«open».result.join opened.«open».ensures.1)
 
 same-length-13 : tie.Need-same-length-13 invariant-loop decreases-loop
 same-length-13 c =
@@ -502,7 +502,7 @@ returns-3 c =
     let through = let_through c.before.before.before.before.before.before.before.before.before.before.before.before.before.before.before.before.before.before.before in
     let told = c.before.before.before.before.before.before.before.before.before.before.before.before.before.before.before.instruction2.given.1 in
     let done = c.before.before.before.before.before.before.before in
-    measure-stops inv more x now _ _ _ _ _ told through j2.if2.state (met j2) opened.«open».result.join opened.«open».ensures.1 done.measure.result.number _ _ done.measure.ensures c.if5.true
+    measure_stops inv more x now _ _ _ _ _ told through j2.if2.state (met j2) opened.«open».result.join opened.«open».ensures.1 done.measure.result.number _ _ done.measure.ensures c.if5.true
 
 remove-requires : tie.Need-remove-requires invariant-loop decreases-loop
 remove-requires c κs =
@@ -516,7 +516,7 @@ remove-requires c κs =
     let through = let_through c.before.before.before.before.before.before.before.before.before.before.before.before.before.before.before.before.before.before.before.before in
     let told = c.before.before.before.before.before.before.before.before.before.before.before.before.before.before.before.before.instruction2.given.1 in
     let done = c.before.before.before.before.before.before.before.before in
-    remove-asks inv more x now _ _ _ _ _ told through j2.if2.state (met j2) opened.«open».result.join opened.«open».ensures.1 done.measure.result.number _ done.measure.ensures c.before.if5.false
+    remove_asks inv more x now _ _ _ _ _ told through j2.if2.state (met j2) opened.«open».result.join opened.«open».ensures.1 done.measure.result.number _ done.measure.ensures c.before.if5.false
 
 close-gap-requires : tie.Need-close-gap-requires invariant-loop decreases-loop
 close-gap-requires c κs =
@@ -530,8 +530,8 @@ close-gap-requires c κs =
     let through = let_through c.before.before.before.before.before.before.before.before.before.before.before.before.before.before.before.before.before.before.before.before.before.before in
     let told = c.before.before.before.before.before.before.before.before.before.before.before.before.before.before.before.before.before.before.instruction2.given.1 in
     let done = c.before.before.before.before.before.before.before.before.before.before in
-    gap-fits inv more x now _ _ _ _ _ told through j2.if2.state (met j2) opened.«open».result.join opened.«open».ensures.1 c.before.remove.result c.before.remove.ensures
-    (remove-asks inv more x now _ _ _ _ _ told through j2.if2.state (met j2) opened.«open».result.join opened.«open».ensures.1 done.measure.result.number _ done.measure.ensures c.before.before.before.if5.false)
+    gap_fits inv more x now _ _ _ _ _ told through j2.if2.state (met j2) opened.«open».result.join opened.«open».ensures.1 c.before.remove.result c.before.remove.ensures
+    (remove_asks inv more x now _ _ _ _ _ told through j2.if2.state (met j2) opened.«open».result.join opened.«open».ensures.1 done.measure.result.number _ done.measure.ensures c.before.before.before.if5.false)
 
 loop-less-4 : tie.Need-loop-smaller-4 invariant-loop decreases-loop
 loop-less-4 c =
@@ -550,7 +550,7 @@ loop-again-4 c =
     let through = let_through c.before.before.before.before.before.before.before.before.before.before.before.before.before.before.before.before.before.before.before.before.before.before.before in
     let told = c.before.before.before.before.before.before.before.before.before.before.before.before.before.before.before.before.before.before.before.instruction2.given.1 in
     let done = c.before.before.before.before.before.before.before.before.before.before.before in
-    measure-goes inv more x now _ _ _ _ _ told through j2.if2.state (met j2) opened.«open».result.join opened.«open».ensures.1 done.measure.result.number done.measure.result.tally _ c.before.before.remove.result c.close-gap.new.0 done.measure.ensures c.before.before.before.before.if5.false c.before.before.remove.ensures c.close-gap.ensures opened.«open».ensures.2 refl refl (record { steps = done.measure.auto.1.1.1.1.1.1.1.1.1.1.1.0 ∙ inv.long.steps; merges = opened.«open».auto.1.1.1.1.1.0 ∙ inv.long.merges; sizes = done.measure.auto.1.1.1.1.1.1.1.1.1.1.1.1.0 ∙ inv.long.sizes; rotations = inv.long.rotations; promotions = inv.long.promotions; measurements = done.measure.auto.1.1.1.1.1.1.1.1.1.1.1.1.1.0 ∙ inv.long.measurements; groups = inv.long.groups })
+    measure_goes inv more x now _ _ _ _ _ told through j2.if2.state (met j2) opened.«open».result.join opened.«open».ensures.1 done.measure.result.number done.measure.result.tally _ c.before.before.remove.result c.close-gap.new.0 done.measure.ensures c.before.before.before.before.if5.false c.before.before.remove.ensures c.close-gap.ensures opened.«open».ensures.2 refl refl (record { steps = done.measure.auto.1.1.1.1.1.1.1.1.1.1.1.0 ∙ inv.long.steps; merges = opened.«open».auto.1.1.1.1.1.0 ∙ inv.long.merges; sizes = done.measure.auto.1.1.1.1.1.1.1.1.1.1.1.1.0 ∙ inv.long.sizes; rotations = inv.long.rotations; promotions = inv.long.promotions; measurements = done.measure.auto.1.1.1.1.1.1.1.1.1.1.1.1.1.0 ∙ inv.long.measurements; groups = inv.long.groups })
 
 put-step-requires-2 : tie.Need-put-step-requires-2 invariant-loop decreases-loop
 put-step-requires-2 c κs =
@@ -577,20 +577,20 @@ loop-again-5 c =
     let opened = c.before.before.before.before.before.before.before.before.before.before in
     let through = let_through c.before.before.before.before.before.before.before in
     let done = c.before.before in
-    let quiet = does-nothing _ inv.w _ _ x c.before.before.before.before.match.keys4 in
-    plain-goes inv more x now quiet.0 quiet.1 j2.if2.state (met j2) _ done.put-step2.ensures opened.«open».ensures.2 refl refl refl refl (record { steps = done.put-step2.auto.0 ∙ inv.long.steps; merges = opened.«open».auto.1.1.1.1.1.0 ∙ inv.long.merges; sizes = inv.long.sizes; rotations = inv.long.rotations; promotions = inv.long.promotions; measurements = inv.long.measurements; groups = inv.long.groups })
+    let quiet = does_nothing _ inv.w _ _ x c.before.before.before.before.match.keys4 in
+    plain_goes inv more x now quiet.0 quiet.1 j2.if2.state (met j2) _ done.put-step2.ensures opened.«open».ensures.2 refl refl refl refl (record { steps = done.put-step2.auto.0 ∙ inv.long.steps; merges = opened.«open».auto.1.1.1.1.1.0 ∙ inv.long.merges; sizes = inv.long.sizes; rotations = inv.long.rotations; promotions = inv.long.promotions; measurements = inv.long.measurements; groups = inv.long.groups })
 
 write-counts-requires : tie.Need-write-counts-requires invariant-loop decreases-loop
 write-counts-requires c κs =
     let inv = c.before.before.before.before.loop.invariant in
     let all = c.before.before.before.loop-test.false in
-    (groups-fit inv all, count_small inv all)
+    (groups_fit inv all, count_small inv all)
 
 write-members-requires : tie.Need-write-members-requires invariant-loop decreases-loop
 write-members-requires c κs =
     let inv = c.before.before.before.before.before.before.before.before.before.before.before.before.before.loop.invariant in
     let all = c.before.before.before.before.before.before.before.before.before.before.before.before.loop-test.false in
-    places-fit inv all _ c.before.before.before.before.before.before.before.before.write-counts.new.1.1.0 c.before.before.before.before.before.before.before.before.write-counts.ensures.0 c.before.before.before.before.before.before.before.before.write-counts.ensures.2
+    places_fit inv all _ c.before.before.before.before.before.before.before.before.write-counts.new.1.1.0 c.before.before.before.before.before.before.before.before.write-counts.ensures.0 c.before.before.before.before.before.before.before.before.write-counts.ensures.2
 
 same-length-19 : tie.Need-same-length-19 invariant-loop decreases-loop
 same-length-19 c = search rules

@@ -6,7 +6,7 @@ use lib.IntN.{pos}
 use lib.Ieee.{fin, inf, nan_bits, of_bits}
 use borrow.Author.Rules.{rules}
 use borrow.Author.Tests.{le-leb, lt-leb}
-use Rattle.kernels.proofs.Laws.{exp2-of-bits, no-nan-below}
+use Rattle.kernels.proofs.Laws.{exp2_of_bits, no_nan_below}
 use Rattle.kernels.proofs.bits.exact_exp2.Statement.{statement}
 use Rattle.kernels.proofs.bits.exact_exp2.Tie as tie
 
@@ -25,11 +25,11 @@ mul-result : tie.Need-overflow-mul-result
 mul-result c = search rules
 
 float-from-bits-result-2 : tie.Need-float-from-bits-result-2
-float-from-bits-result-2 c = no-nan-below _ (omega arith)
+float-from-bits-result-2 c = no_nan_below _ (omega arith)
 
 returns-2 : tie.Need-returns-2
 returns-2 c =
-    exp2-of-bits c.before.args.k c.if1.false
+    exp2_of_bits c.before.args.k c.if1.false
     ∙ sym (ap (λ (b : Bool). cond b (fin false 1 (pos c.before.args.k)) (inf false)) (le-leb c.before.args.k 1023 c.if1.false))
 
 pub exact-exp2-spec : {M : Type 1} → statement M

@@ -4,7 +4,7 @@ use mathlib.Core.Path.{sym, subst}
 use Prim.Native.Nat.{ℕ, suc, ◌-◌, ◌≤◌}
 use native.Mathlib.Omega.{arith}
 use lib.ListN.{length, get_or, set}
-use Rattle.definition.proofs.Filled.{Filled, filled_none, filled_next, filled-all}
+use Rattle.definition.proofs.Filled.{Filled, filled_none, filled_next, filled_all}
 use borrow.Author.Rules.{rules}
 use Rattle.midvokt.proofs.stored.lay_out.Statement.{statement}
 use Rattle.midvokt.proofs.stored.lay_out.Tie as tie
@@ -35,14 +35,14 @@ loop-less c = search rules
 
 loop-again : tie.Need-loop-preserved invariant-loop decreases-loop
 loop-again c =
-    let at-loop = c.before.before in
-    let a = at-loop.before.before.before.args in
-    let i = at-loop.loop.i in
+    let at_loop = c.before.before in
+    let a = at_loop.before.before.before.args in
+    let i = at_loop.loop.i in
     let word : ℕ → ℕ = λ j. get_or a.words.now j 0 in (
       omega arith,
-      subst (λ (k : ℕ). Filled word (length a.result.now) k (set at-loop.loop.result i c.word-or-zero.result)) (omega arith)
-          (subst (λ (y : ℕ). Filled word (length a.result.now) (suc i) (set at-loop.loop.result i y)) (sym c.word-or-zero.ensures)
-          (filled_next word (length a.result.now) i at-loop.loop.result (omega arith) at-loop.loop.invariant.1)),
+      subst (λ (k : ℕ). Filled word (length a.result.now) k (set at_loop.loop.result i c.word-or-zero.result)) (omega arith)
+          (subst (λ (y : ℕ). Filled word (length a.result.now) (suc i) (set at_loop.loop.result i y)) (sym c.word-or-zero.ensures)
+          (filled_next word (length a.result.now) i at_loop.loop.result (omega arith) at_loop.loop.invariant.1)),
     )
 
 same_length : tie.Need-same-length invariant-loop decreases-loop
@@ -50,11 +50,11 @@ same_length c = search rules
 
 returns : tie.Need-returns invariant-loop decreases-loop
 returns c =
-    let at-loop = c.before in
-    let a = at-loop.before.before.before.args in
+    let at_loop = c.before in
+    let a = at_loop.before.before.before.args in
     let word : ℕ → ℕ = λ j. get_or a.words.now j 0 in
-    filled-all word (length a.result.now) at-loop.loop.result
-    (subst (λ (k : ℕ). Filled word (length a.result.now) k at-loop.loop.result) (omega arith) at-loop.loop.invariant.1)
+    filled_all word (length a.result.now) at_loop.loop.result
+    (subst (λ (k : ℕ). Filled word (length a.result.now) k at_loop.loop.result) (omega arith) at_loop.loop.invariant.1)
 
 pub lay-out-spec : {M : Type 1} → statement M
 lay-out-spec =

@@ -3,7 +3,7 @@
 use mathlib.Core.Path.{sym, ap}
 use Rattle.stored_plan.specs.declared.Loaded.{Loaded}
 use Rattle.stored_plan.specs.Loading as Loading
-use Rattle.midvokt.specs.Stored.{loadWords}
+use Rattle.midvokt.specs.Stored.{load_words}
 use borrow.Author.Rules.{rules}
 use Rattle.midvokt.proofs.stored.load_words.Statement.{statement}
 use Rattle.midvokt.proofs.stored.load_words.Tie as tie
@@ -15,10 +15,10 @@ enum-known-loaded-2 : tie.Need-enum-known-loaded-2
 enum-known-loaded-2 c = search rules
 
 returns : tie.Need-returns
-returns c = sym (ap (λ (v : Loaded). loadWords (Loading.outcomeOf v)) c.before.loaded.given.1)
+returns c = sym (ap (λ (v : Loaded). load_words (Loading.outcome_of v)) c.before.loaded.given.1)
 
 returns-2 : tie.Need-returns-2
-returns-2 c = sym (ap (λ (v : Loaded). loadWords (Loading.outcomeOf v)) c.before.loaded2.given.1)
+returns-2 c = sym (ap (λ (v : Loaded). load_words (Loading.outcome_of v)) c.before.loaded2.given.1)
 
 pub load-words-spec : {M : Type 1} → statement M
 load-words-spec = tie.close (tie.spec enum-known-loaded enum-known-loaded-2 returns returns-2)

@@ -2,8 +2,8 @@
 -- Assumes nothing.
 use mathlib.Core.Path.{ap, ◌∙◌}
 use lib.ListN.{length}
-use Rattle.midvokt.specs.Reply.{laidOut}
-use Rattle.midvokt.specs.Stored.{loadNumber, loadWords}
+use Rattle.midvokt.specs.Reply.{laid_out}
+use Rattle.midvokt.specs.Stored.{load_number, load_words}
 use borrow.Author.Rules.{rules}
 use Rattle.midvokt.proofs.stored.midvokt_load.Statement.{statement}
 use Rattle.midvokt.proofs.stored.midvokt_load.Tie as tie
@@ -48,8 +48,8 @@ returns : tie.Need-returns
 returns c =
     let lent = c.before.before.before.before.before.before.before.before.before.before.before.before.before.before.before.before.before.before.before.before.before.before.before.before.before.before.before.before.before.before.before.before.before.before.args.res.now in
     let loaded = c.before.before.before.before.before.before.before.before.before.before.before.before.before.before.before.before.before.before.before.load.ensures in record {
-      number = c.load-number.ensures ∙ ap loadNumber loaded.answer;
-      result = c.before.before.before.lay-out.ensures ∙ ap (laidOut (length lent)) (c.before.before.before.before.before.before.load-words.ensures ∙ ap loadWords loaded.answer);
+      number = c.load-number.ensures ∙ ap load_number loaded.answer;
+      result = c.before.before.before.lay-out.ensures ∙ ap (laid_out (length lent)) (c.before.before.before.before.before.before.load-words.ensures ∙ ap load_words loaded.answer);
       held = loaded.held;
     }
 

@@ -2,8 +2,8 @@
 -- Assumes nothing.
 use mathlib.Core.Path.{ap, ◌∙◌}
 use lib.ListN.{length}
-use Rattle.midvokt.specs.Reply.{laidOut}
-use Rattle.midvokt.specs.Stored.{storeNumber, store_words}
+use Rattle.midvokt.specs.Reply.{laid_out}
+use Rattle.midvokt.specs.Stored.{store_number, store_words}
 use borrow.Author.Rules.{rules}
 use Rattle.midvokt.proofs.stored.midvokt_store.Statement.{statement}
 use Rattle.midvokt.proofs.stored.midvokt_store.Tie as tie
@@ -54,8 +54,8 @@ returns : tie.Need-returns
 returns c =
     let lent = c.before.before.before.before.before.before.before.before.before.before.before.before.before.before.before.before.before.before.before.before.before.before.before.before.before.before.before.before.before.before.before.before.before.before.before.before.before.before.before.before.before.before.args.res.now in
     let stored = c.before.before.before.before.before.before.before.before.before.before.before.before.before.before.before.before.before.before.before.before.before.before.before.store.ensures in record {
-      number = c.store-number.ensures ∙ ap storeNumber stored.answer;
-      result = c.before.before.before.lay-out.ensures ∙ ap (laidOut (length lent)) (c.before.before.before.before.before.before.store_words_lem.ensures ∙ ap store_words stored.answer);
+      number = c.store-number.ensures ∙ ap store_number stored.answer;
+      result = c.before.before.before.lay-out.ensures ∙ ap (laid_out (length lent)) (c.before.before.before.before.before.before.store_words_lem.ensures ∙ ap store_words stored.answer);
       held = stored.held;
       bytes = stored.bytes;
     }

@@ -15,10 +15,10 @@ enum-known-stored-2 : tie.Need-enum-known-stored-2
 enum-known-stored-2 c = search rules
 
 returns : tie.Need-returns
-returns c = sym (ap (λ (v : Stored). store_words (Storing.outcomeOf v)) c.before.stored.given.1)
+returns c = sym (ap (λ (v : Stored). store_words (Storing.outcome_of v)) c.before.stored.given.1)
 
 returns-2 : tie.Need-returns-2
-returns-2 c = sym (ap (λ (v : Stored). store_words (Storing.outcomeOf v)) c.before.stored2.given.1)
+returns-2 c = sym (ap (λ (v : Stored). store_words (Storing.outcome_of v)) c.before.stored2.given.1)
 
 pub store-words-spec : {M : Type 1} → statement M
 store-words-spec = tie.close (tie.spec enum-known-stored enum-known-stored-2 returns returns-2)

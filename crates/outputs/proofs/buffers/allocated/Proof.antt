@@ -10,7 +10,7 @@ use lib.Dec.{lit<}
 use lib.ListN.{length, get_or, take}
 use lib.Seq.{take_all}
 use lib.Pow.{shl_exact}
-use Rattle.definition.specs.Components.{allocatedFor}
+use Rattle.definition.specs.Components.{allocated_for}
 use Rattle.outputs.proofs.Fill.{powers, sum_more}
 use borrow.Author.Rules.{rules}
 use Rattle.outputs.proofs.buffers.allocated.Statement.{statement}
@@ -54,10 +54,10 @@ loop-again c =
     )
 
 returns : tie.Need-returns invariant-loop decreases-loop
-unfolding allocatedFor
+unfolding allocated_for
 returns c =
-    let at-loop = c.before in
-    at-loop.loop.invariant.1 ∙ ap (λ (l : List ℕ). min (2 ^ 64 - 1) (powers l)) (take_all at-loop.loop.i at-loop.before.before.args.sizes.now c.loop-test.false)
+    let at_loop = c.before in
+    at_loop.loop.invariant.1 ∙ ap (λ (l : List ℕ). min (2 ^ 64 - 1) (powers l)) (take_all at_loop.loop.i at_loop.before.before.args.sizes.now c.loop-test.false)
 
 pub allocated-spec : {M : Type 1} → statement M
 allocated-spec =

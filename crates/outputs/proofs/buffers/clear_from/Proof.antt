@@ -6,7 +6,7 @@ use mathlib.Core.List.{◌++◌}
 use Prim.Native.Nat.{◌+◌, ◌-◌, ◌≤◌, max}
 use native.Mathlib.Omega.{arith}
 use lib.ListN.{length, take, replicate, length-set}
-use Rattle.outputs.proofs.Fill.{clear_none, clear-more, clear-all}
+use Rattle.outputs.proofs.Fill.{clear_none, clear_more, clear_all}
 use borrow.Author.Rules.{rules}
 use Rattle.outputs.proofs.buffers.clear_from.Statement.{statement}
 use Rattle.outputs.proofs.buffers.clear_from.Tie as tie
@@ -35,16 +35,16 @@ loop-less c = search rules
 
 loop-again : tie.Need-loop-preserved invariant-loop decreases-loop
 loop-again c =
-    let at-loop = c.before in
-    (omega arith, omega arith, simp length-set at-loop.loop.invariant.2, clear-more at-loop.before.args.words.now at-loop.loop.words at-loop.before.args.from at-loop.loop.i (omega arith) (omega arith) at-loop.loop.invariant.3)
+    let at_loop = c.before in
+    (omega arith, omega arith, simp length-set at_loop.loop.invariant.2, clear_more at_loop.before.args.words.now at_loop.loop.words at_loop.before.args.from at_loop.loop.i (omega arith) (omega arith) at_loop.loop.invariant.3)
 
 same_length : tie.Need-same-length invariant-loop decreases-loop
 same_length c = search rules
 
 returns : tie.Need-returns invariant-loop decreases-loop
 returns c =
-    let at-loop = c.before in
-    clear-all at-loop.before.args.words.now at-loop.loop.words at-loop.before.args.from at-loop.loop.i (omega arith) (omega arith) at-loop.loop.invariant.3
+    let at_loop = c.before in
+    clear_all at_loop.before.args.words.now at_loop.loop.words at_loop.before.args.from at_loop.loop.i (omega arith) (omega arith) at_loop.loop.invariant.3
 
 pub clear-from-spec : {M : Type 1} → statement M
 clear-from-spec =

@@ -35,11 +35,11 @@ loop-less c = search rules
 
 loop-again : tie.Need-loop-preserved invariant-loop decreases-loop
 loop-again c =
-    let at-loop = c.before in
-    let words = at-loop.before.args.words.now in (
+    let at_loop = c.before in
+    let words = at_loop.before.args.words.now in (
       omega arith,
-      simp length-set at-loop.loop.invariant.1,
-      ap (λ (l : List ℕ). set l at-loop.loop.i 1) at-loop.loop.invariant.2 ∙ fill_more at-loop.loop.i 1 words (omega arith),
+      simp length-set at_loop.loop.invariant.1,
+      ap (λ (l : List ℕ). set l at_loop.loop.i 1) at_loop.loop.invariant.2 ∙ fill_more at_loop.loop.i 1 words (omega arith),
     )
 
 same_length : tie.Need-same-length invariant-loop decreases-loop
@@ -47,8 +47,8 @@ same_length c = search rules
 
 returns : tie.Need-returns invariant-loop decreases-loop
 returns c =
-    let at-loop = c.before in
-    at-loop.loop.invariant.2 ∙ ap (λ (k : ℕ). replicate k 1 ++ drop k at-loop.before.args.words.now) (le_antisymm at-loop.loop.invariant.0 c.loop-test.false)
+    let at_loop = c.before in
+    at_loop.loop.invariant.2 ∙ ap (λ (k : ℕ). replicate k 1 ++ drop k at_loop.before.args.words.now) (le_antisymm at_loop.loop.invariant.0 c.loop-test.false)
 
 pub fill-ones-spec : {M : Type 1} → statement M
 fill-ones-spec =

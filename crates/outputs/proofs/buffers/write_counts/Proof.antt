@@ -6,8 +6,8 @@ use mathlib.Core.Logic.{⊎_elim}
 use Prim.Native.Nat.{suc, ◌+◌, ◌-◌, ◌≤◌}
 use native.Mathlib.Omega.{arith}
 use lib.ListN.{length, get_or, take, drop, length-set}
-use Rattle.outputs.specs.Buffers.{Counts, countsFrom, countsOf}
-use Rattle.outputs.proofs.Groups.{counts-empty, counts-full, counts-room, counts_end}
+use Rattle.outputs.specs.Buffers.{Counts, counts_from, counts_of}
+use Rattle.outputs.proofs.Groups.{counts_empty, counts_full, counts_room, counts_end}
 use borrow.Author.Rules.{rules}
 use Rattle.outputs.proofs.buffers.write_counts.Statement.{statement}
 use Rattle.outputs.proofs.buffers.write_counts.Tie as tie
@@ -15,13 +15,13 @@ use Rattle.outputs.proofs.buffers.write_counts.Tie as tie
 abbrev invariant-loop : tie.invariant-loop
 invariant-loop size count groups₀ start₀ used₀ c₀ groups start used c =
     (c ≤ count) × (length groups ≡ length groups₀)
-    × (countsFrom c (drop c (take count size)) (record { groups = groups; start = start; used = used }) ≡ countsOf (take count size) groups₀)
+    × (counts_from c (drop c (take count size)) (record { groups = groups; start = start; used = used }) ≡ counts_of (take count size) groups₀)
 
 abbrev decreases-loop : tie.decreases-loop
 decreases-loop size count groups₀ start₀ used₀ c₀ groups start used c = count - c
 
 loop-holds : tie.Need-loop-init invariant-loop decreases-loop
-unfolding countsOf
+unfolding counts_of
 loop-holds c = (search rules, refl, refl)
 
 element-copy-out-s : tie.Need-element-copy-out-s invariant-loop decreases-loop
@@ -37,7 +37,7 @@ room c =
     let loop = turn.before.loop in
     let start = turn.before.before in
     let args = start.args in
-    let grows = counts-room args.size.now args.count loop.c loop.groups loop.start loop.used turn.loop-test.true c.if1.true in
+    let grows = counts_room args.size.now args.count loop.c loop.groups loop.start loop.used turn.loop-test.true c.if1.true in
     let all = ap (λ (h : Counts). h.used) loop.invariant.2 in
     let fit = start.requires.0.fit in
     let small = start.requires.0.small in
@@ -88,8 +88,8 @@ loop-again c =
       omega arith,
       ⊎_elim (λ w. ap length w.1 ∙ simp length-set loop.invariant.1) (λ w. ap length w.1 ∙ loop.invariant.1) c.if1.branch,
       ⊎_elim
-          (λ w. sym (counts-full args.size.now args.count loop.c loop.groups loop.start loop.used taken c.if1.groups c.if1.start c.if1.used w.0.taken w.1 w.2 w.3) ∙ loop.invariant.2)
-          (λ w. sym (counts-empty args.size.now args.count loop.c loop.groups loop.start loop.used taken c.if1.groups c.if1.start c.if1.used w.0.left w.1 w.2 w.3) ∙ loop.invariant.2)
+          (λ w. sym (counts_full args.size.now args.count loop.c loop.groups loop.start loop.used taken c.if1.groups c.if1.start c.if1.used w.0.taken w.1 w.2 w.3) ∙ loop.invariant.2)
+          (λ w. sym (counts_empty args.size.now args.count loop.c loop.groups loop.start loop.used taken c.if1.groups c.if1.start c.if1.used w.0.left w.1 w.2 w.3) ∙ loop.invariant.2)
           c.if1.branch,
     )
 
@@ -100,7 +100,7 @@ returns : tie.Need-returns invariant-loop decreases-loop
 returns c =
     let loop = c.before.loop in
     let args = c.before.before.args in
-    let ended : record { groups = loop.groups; start = loop.start; used = loop.used } ≡ countsOf (take args.count args.size.now) args.groups.now =
+    let ended : record { groups = loop.groups; start = loop.start; used = loop.used } ≡ counts_of (take args.count args.size.now) args.groups.now =
     sym (counts_end args.size.now args.count loop.c (record { groups = loop.groups; start = loop.start; used = loop.used }) c.loop-test.false) ∙ loop.invariant.2 in
     (ap (λ (h : Counts). h.start) ended, ap (λ (h : Counts). h.used) ended, ap (λ (h : Counts). h.groups) ended)
 

@@ -6,15 +6,15 @@ use Prim.Native.Nat.{ℕ, ◌+◌, ◌-◌, ◌≤◌, ◌<◌}
 use native.Mathlib.Omega.{arith}
 use native.Mathlib.Nat.{le_antisymm}
 use lib.ListN.{length, get_or, set, length-set}
-use Rattle.outputs.specs.Buffers.{placedUpTo, word_at}
-use Rattle.outputs.proofs.Groups.{placed-more}
+use Rattle.outputs.specs.Buffers.{placed_up_to, word_at}
+use Rattle.outputs.proofs.Groups.{placed_more}
 use borrow.Author.Rules.{rules}
 use Rattle.outputs.proofs.buffers.write_members.Statement.{statement}
 use Rattle.outputs.proofs.buffers.write_members.Tie as tie
 
 abbrev invariant-loop : tie.invariant-loop
 invariant-loop coordinate component place width groups₀ start p₀ groups p =
-    (p ≤ width) × (length groups ≡ length groups₀) × (groups ≡ placedUpTo start coordinate component place p groups₀)
+    (p ≤ width) × (length groups ≡ length groups₀) × (groups ≡ placed_up_to start coordinate component place p groups₀)
 
 abbrev decreases-loop : tie.decreases-loop
 decreases-loop coordinate component place width groups₀ start p₀ groups p = width - p
@@ -89,7 +89,7 @@ loop-again c =
       omega arith,
       simp length-set loop.invariant.1,
       ap (λ (v : ℕ). set loop.groups (word_at args.t1 args.coordinate.now args.component.now args.place.now loop.p) v) c.wide.ensures
-          ∙ placed-more args.t1 args.coordinate.now args.component.now args.place.now loop.p loop.groups args.groups.now loop.invariant.2,
+          ∙ placed_more args.t1 args.coordinate.now args.component.now args.place.now loop.p loop.groups args.groups.now loop.invariant.2,
     )
 
 same_length : tie.Need-same-length invariant-loop decreases-loop
@@ -97,11 +97,11 @@ same_length c = search rules
 
 returns : tie.Need-returns invariant-loop decreases-loop
 returns c =
-    let at-loop = c.before in
-    let args = at-loop.before.before.args in
-    at-loop.loop.invariant.2
-    ∙ ap (λ (k : ℕ). placedUpTo args.t1 args.coordinate.now args.component.now args.place.now k args.groups.now)
-    (le_antisymm at-loop.loop.invariant.0 c.loop-test.false)
+    let at_loop = c.before in
+    let args = at_loop.before.before.args in
+    at_loop.loop.invariant.2
+    ∙ ap (λ (k : ℕ). placed_up_to args.t1 args.coordinate.now args.component.now args.place.now k args.groups.now)
+    (le_antisymm at_loop.loop.invariant.0 c.loop-test.false)
 
 pub write-members-spec : {M : Type 1} → statement M
 write-members-spec =

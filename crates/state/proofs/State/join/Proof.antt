@@ -7,8 +7,8 @@ use native.Mathlib.Omega.{arith}
 use lib.ListN.{length, get_or}
 use borrow.Author.Rules.{rules}
 use borrow.Author.Count.{below_none}
-use Rattle.state.specs.Steps.{riseAt, target_of}
-use Rattle.state.proofs.Gathers.{length-after, moved, Passed, passed-same, passed-moved}
+use Rattle.state.specs.Steps.{rise_at, target_of}
+use Rattle.state.proofs.Gathers.{length_after, moved, Passed, passed_same, passed_moved}
 use Rattle.state.proofs.State.join.Statement.{statement}
 use Rattle.state.proofs.State.join.Tie as tie
 
@@ -41,7 +41,7 @@ loop-holds c =
         places = search rules;
         component = below_none _;
         place = below_none _;
-        same-component = λ q h. refl;
+        same_component = λ q h. refl;
         same_place = λ q h. refl;
         small = start.requires.shape.small;
       },
@@ -62,12 +62,12 @@ array-read-by c = c.before.before.loop.invariant.2.small c.before.before.loop.p
 -- by how much the place at p rises
 by-is : (c : tie.After-c invariant-loop decreases-loop)
     → get_or c.before.before.before.before.gather-sizes.result (get_or c.before.before.loop.self.component c.before.before.loop.p 0) 0
-    ≡ riseAt c.before.before.before.before.before.before.before.args.t1 c.before.before.before.before.before.before.before.args.sources.now c.before.before.loop.p
+    ≡ rise_at c.before.before.before.before.before.before.before.args.t1 c.before.before.before.before.before.before.before.args.sources.now c.before.before.loop.p
 by-is c =
     let turn = c.before.before.loop in
     let call = c.before.before.before.before in
     let first = c.before.before.before.before.before.before.before.args.t1 in
-    ap (λ (k : ℕ). get_or call.gather-sizes.result k 0) (turn.invariant.2.same-component turn.p (omega arith))
+    ap (λ (k : ℕ). get_or call.gather-sizes.result k 0) (turn.invariant.2.same_component turn.p (omega arith))
     ∙ ap (λ (l : List ℕ). get_or l (get_or first.component turn.p 0) 0) call.gather-sizes.ensures.0
 
 mul-self : tie.Need-overflow-mul-self invariant-loop decreases-loop
@@ -102,8 +102,8 @@ loop-again c =
       omega arith,
       turn.invariant.1,
       ⊎_elim
-          (λ w. passed-moved turn.invariant.2 (omega arith) (start.requires.joinable.numbers 0) w.0.taken c.if1.self w.2)
-          (λ w. passed-same turn.invariant.2 w.0.left c.if1.self w.1)
+          (λ w. passed_moved turn.invariant.2 (omega arith) (start.requires.joinable.numbers 0) w.0.taken c.if1.self w.2)
+          (λ w. passed_same turn.invariant.2 w.0.left c.if1.self w.1)
           c.if1.branch,
     )
 
@@ -125,7 +125,7 @@ returns c =
       shape = record {
         components = turn.invariant.2.components;
         places = turn.invariant.2.places;
-        sizes = ap length (turn.invariant.2.size ∙ call.gather-sizes.ensures.1) ∙ length-after first.size sources ∙ start.requires.shape.sizes;
+        sizes = ap length (turn.invariant.2.size ∙ call.gather-sizes.ensures.1) ∙ length_after first.size sources ∙ start.requires.shape.sizes;
         small = turn.invariant.2.small;
       };
     }

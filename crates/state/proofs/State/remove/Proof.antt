@@ -9,8 +9,8 @@ use borrow.Author.Rules.{rules}
 use lib.ListN.{length-set}
 use borrow.Author.Count.{below_none}
 use Rattle.positions.specs.Positions.{Below512}
-use Rattle.positions.proofs.Arrays.{store_below, store-above, store-all}
-use Rattle.state.proofs.Numbers.{skip-near}
+use Rattle.positions.proofs.Arrays.{store_below, store_above, store_all}
+use Rattle.state.proofs.Numbers.{skip_near}
 use Rattle.state.proofs.State.remove.Statement.{statement}
 use Rattle.state.proofs.State.remove.Tie as tie
 
@@ -62,7 +62,7 @@ skip-requires c κs = search rules
 near : (c : tie.After-skip invariant-loop decreases-loop) → (c.before.before.loop.p ≤ c.skip.result) × (c.skip.result < 512)
 near c =
     let start = c.before.before.before.before.before in
-    let bounds = skip-near start.args.pivot c.before.before.loop.p in
+    let bounds = skip_near start.args.pivot c.before.before.loop.p in
     (omega (arith, bounds.0, c.skip.ensures), omega (arith, bounds.1, c.skip.ensures, start.requires.narrow))
 
 mul-c : tie.Need-overflow-mul-c invariant-loop decreases-loop
@@ -117,9 +117,9 @@ loop-again c =
           s.place turn.p _ (omega arith) turn.invariant.7
           (c.lower.ensures ∙ ap (λ (k : ℕ). lowered target local k (get_or s.place q 0)) component
           ∙ ap (λ (k : ℕ). lowered target local (get_or first.component (skip pivot turn.p) 0) k) place),
-      store-above (λ (k x : ℕ). x ≡ get_or first.component k 0) s.component turn.p _ turn.invariant.8,
-      store-above (λ (k x : ℕ). x ≡ get_or first.place k 0) s.place turn.p _ turn.invariant.9,
-      store-all s.component turn.p _ (omega arith) turn.invariant.10 (turn.invariant.10 q),
+      store_above (λ (k x : ℕ). x ≡ get_or first.component k 0) s.component turn.p _ turn.invariant.8,
+      store_above (λ (k x : ℕ). x ≡ get_or first.place k 0) s.place turn.p _ turn.invariant.9,
+      store_all s.component turn.p _ (omega arith) turn.invariant.10 (turn.invariant.10 q),
     )
 
 cast-at : tie.Need-overflow-cast-at invariant-loop decreases-loop

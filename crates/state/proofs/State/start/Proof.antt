@@ -7,7 +7,7 @@ use borrow.Author.Rules.{rules}
 use lib.ListN.{length-set, get_or-replicate}
 use borrow.Author.Count.{below_none}
 use Rattle.positions.specs.Positions.{Below512}
-use Rattle.positions.proofs.Arrays.{zeros-small, store_below, store-all}
+use Rattle.positions.proofs.Arrays.{zeros_small, store_below, store_all}
 use Rattle.state.proofs.State.start.Statement.{statement}
 use Rattle.state.proofs.State.start.Tie as tie
 
@@ -31,7 +31,7 @@ loop-holds c = (
   below_none _,
   below_none _,
   λ p h. get_or-replicate 512 p 0 0 h,
-  zeros-small 512,
+  zeros_small 512,
   search rules,
 )
 
@@ -66,7 +66,7 @@ loop-again c =
       store_below (λ (q x : ℕ). x ≡ q) state.component i i (omega arith) turn.invariant.5 refl,
       store_below (λ (q x : ℕ). x ≡ 1) state.size i 1 (omega arith) turn.invariant.6 refl,
       turn.invariant.7,
-      store-all state.component i i (omega arith) turn.invariant.8 (omega arith),
+      store_all state.component i i (omega arith) turn.invariant.8 (omega arith),
       turn.invariant.9,
     )
 

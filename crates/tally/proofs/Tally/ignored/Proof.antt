@@ -1,5 +1,5 @@
 -- `tally::Tally::ignored` meets its contract: each field is the definition's, by what `exact_exp2` and the wrapping addition ensure.
-use Rattle.tally.specs.Tally.{ignoredTally}
+use Rattle.tally.specs.Tally.{ignored_tally}
 use Rattle.std.proofs.Common.{rules}
 use Rattle.tally.proofs.Tally.ignored.Statement.{statement}
 use Rattle.tally.proofs.Tally.ignored.Tie as tie
@@ -14,7 +14,7 @@ add-self : tie.Need-overflow-add-self
 add-self c = search rules
 
 returns : tie.Need-returns
-unfolding ignoredTally
+unfolding ignored_tally
 returns c = simp (c.before.before.before.exact-exp2.ensures, c.before.wrapping-add-u64.ensures)
 
 pub ignored-spec : {M : Type 1} → statement M

@@ -1,5 +1,5 @@
 -- `tally::Tally::joined` meets its contract: each field is the definition's, by what `power`, `larger` and the wrapping addition ensure.
-use Rattle.tally.specs.Tally.{joinedTally}
+use Rattle.tally.specs.Tally.{joined_tally}
 use Rattle.std.proofs.Common.{rules}
 use Rattle.tally.proofs.Tally.joined.Statement.{statement}
 use Rattle.tally.proofs.Tally.joined.Tie as tie
@@ -26,7 +26,7 @@ add-self-3 : tie.Need-overflow-add-self-3
 add-self-3 c = search rules
 
 returns : tie.Need-returns
-unfolding joinedTally
+unfolding joined_tally
 returns c =
     simp (
       c.before.before.before.wrapping-add-u64.ensures,

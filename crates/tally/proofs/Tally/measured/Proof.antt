@@ -4,7 +4,7 @@ use native.Mathlib.Nat.{mod-add-mod}
 use Rattle.tally.specs.declared.Tally.{Tally}
 use Rattle.tally.proofs.Sums.{left_below, wraps}
 use lib.Ieee.{of_bits}
-use Rattle.tally.specs.Tally.{joinedTally, measuredTally}
+use Rattle.tally.specs.Tally.{joined_tally, measured_tally}
 use Rattle.tally.proofs.Tally.measured.Statement.{statement}
 use Rattle.tally.proofs.Tally.measured.Tie as tie
 
@@ -36,7 +36,7 @@ power-requires : tie.Need-power-requires
 power-requires c κs = search rules
 
 sub-next : tie.Need-overflow-sub-next
-unfolding joinedTally
+unfolding joined_tally
 sub-next c =
     omega (
       arith,
@@ -48,7 +48,7 @@ power-left-requires : tie.Need-power-left-requires
 power-left-requires c κs = search rules
 
 add-next : tie.Need-overflow-add-next
-unfolding joinedTally
+unfolding joined_tally
 add-next c =
     omega (
       arith,
@@ -60,7 +60,7 @@ add-next c =
     )
 
 add-next-2 : tie.Need-overflow-add-next-2
-unfolding joinedTally
+unfolding joined_tally
 add-next-2 c =
     omega (
       arith,
@@ -69,7 +69,7 @@ add-next-2 c =
     )
 
 returns : tie.Need-returns
-unfolding measuredTally joinedTally of_bits
+unfolding measured_tally joined_tally of_bits
 returns c =
     let size = c.before.before.before.before.before.before.before.before.before.before.before.before.before.before.args.join.size in
     simp (

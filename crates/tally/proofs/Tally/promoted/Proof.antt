@@ -1,6 +1,6 @@
 -- `tally::Tally::promoted` meets its contract: each field is the definition's, by what `exact_exp2`, `larger` and the additions modulo 2 ^ 64 ensure.
 use lib.Ieee.{of_bits}
-use Rattle.tally.specs.Tally.{promotedTally}
+use Rattle.tally.specs.Tally.{promoted_tally}
 use Rattle.tally.proofs.Sums.{wraps}
 use Rattle.std.proofs.Common.{rules}
 use Rattle.tally.proofs.Tally.promoted.Statement.{statement}
@@ -37,7 +37,7 @@ add-self-3 : tie.Need-overflow-add-self-3
 add-self-3 c = search rules
 
 returns : tie.Need-returns
-unfolding promotedTally of_bits
+unfolding promoted_tally of_bits
 returns c =
     simp (
       c.before.before.larger2.ensures,

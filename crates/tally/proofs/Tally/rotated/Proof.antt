@@ -2,7 +2,7 @@
 use Rattle.std.proofs.Common.{ap, arith, pow_mono, rules}
 use Rattle.tally.specs.declared.Tally.{Tally}
 use lib.Ieee.{of_bits}
-use Rattle.tally.specs.Tally.{joinedTally, rotatedTally}
+use Rattle.tally.specs.Tally.{joined_tally, rotated_tally}
 use Rattle.tally.proofs.Sums.{wraps}
 use Rattle.tally.proofs.Tally.rotated.Statement.{statement}
 use Rattle.tally.proofs.Tally.rotated.Tie as tie
@@ -32,7 +32,7 @@ wrapping-add-u64-requires-2 : tie.Need-wrapping-add-u64-requires-2
 wrapping-add-u64-requires-2 c κs = search rules
 
 add-next : tie.Need-overflow-add-next
-unfolding joinedTally
+unfolding joined_tally
 add-next c =
     omega (
       arith,
@@ -41,7 +41,7 @@ add-next c =
     )
 
 returns : tie.Need-returns
-unfolding rotatedTally joinedTally of_bits
+unfolding rotated_tally joined_tally of_bits
 returns c =
     simp (
       c.before.before.before.before.before.before.before.before.before.joined.ensures,

@@ -1,7 +1,7 @@
 -- `tally::Tally::start` meets its contract: each field is the definition's, and 2 · k fits for k up to 512.
 use Rattle.std.proofs.Common.{refl, rules}
 use lib.Ieee.{of_bits}
-use Rattle.tally.specs.Tally.{startTally}
+use Rattle.tally.specs.Tally.{start_tally}
 use Rattle.tally.proofs.Tally.start.Statement.{statement}
 use Rattle.tally.proofs.Tally.start.Tie as tie
 
@@ -12,7 +12,7 @@ mul-t3 : tie.Need-overflow-mul-t3
 mul-t3 c = search rules
 
 returns : tie.Need-returns
-unfolding startTally of_bits
+unfolding start_tally of_bits
 returns c = refl
 
 pub start_spec : {M : Type 1} → statement M
