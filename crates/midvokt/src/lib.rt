@@ -1,5 +1,7 @@
 // The library as C and Rust link it: plain words in and out. Planning stands here, storing and reading plans in `stored`;
 // include/midvokt.h has the declarations.
+#![tactic(auto)]
+
 pub mod stored;
 
 ghost use Rattle.std.specs.Prelude.{◌≡◌, length, get_or};

@@ -58,7 +58,7 @@ pub fn allocated(sizes: &[u64]) -> u64
 }
 
 // Where the members of each component go, and how many words the groups take.
-#[derive(Drop)]
+#[derive(Clone, Copy)]
 pub struct Starts {
     pub start: [u16; 512],
     pub used: usize,

@@ -9,7 +9,7 @@ use libc::{STDIN_FILENO, STDOUT_FILENO};
 use midvokt::midvokt_plan;
 
 // What was found of a vector: it was read, and whether it agrees as far as it was compared; or why it was not read.
-#[derive(Drop)]
+#[derive(Clone, Copy)]
 enum Found {
     Read(bool),
     TooLong,

@@ -1,4 +1,6 @@
 // What a record does besides changing the state: the sources of its join before, its row, its step and its sums after.
+#![tactic(auto)]
+
 ghost use Rattle.std.specs.Prelude.{◌≡◌, ◌+◌, ◌*◌, ◌%◌, ◌^◌, ◌<◌, ◌≤◌, cond, eqb, leb, length, get_or};
 ghost use Rattle.outputs.specs.Buffers.{patch};
 ghost use Rattle.positions.specs.Positions.{local_of};
@@ -16,14 +18,14 @@ use rows::{RowHead, put_measurement, put_rotation, put_step};
 use tally::{Joining, Tally, join_of};
 
 // A refusal's number, or 0 and the join that the record makes: one of no sources where it makes none.
-#[derive(Drop)]
+#[derive(Clone, Copy)]
 pub struct Opening {
     pub number: u64,
     pub join: Joining,
 }
 
 // A refusal's number, or 0 and the sums after the record.
-#[derive(Drop)]
+#[derive(Clone, Copy)]
 pub struct Closing {
     pub number: u64,
     pub tally: Tally,

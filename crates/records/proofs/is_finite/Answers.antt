@@ -1,12 +1,10 @@
 -- `records::is_finite` meets its contract: the finite values are those above the negative infinity and below the positive one, and a NaN
 -- is neither.
--- Assumes nothing.
 use mathlib.Core.Path.{◌≡◌, refl, sym}
 use mathlib.Core.Bool.{true, false}
 use lib.Ieee.{Float, nan, inf, fin, lt, of_bits, div, neg}
 use lib.Ieee.Scale.{finite}
-use Rattle.records.proofs.is_finite.Statement.{statement}
-use Rattle.records.proofs.is_finite.Tie as tie
+use Rattle.records.proofs.is_finite.Goals as goal
 
 above : (x : Float) → lt (inf true) x ≡ true → lt x (inf false) ≡ finite x
 unfolding lt
@@ -22,13 +20,10 @@ not_above (inf true) e = refl
 not_above (inf false) e = e
 not_above (fin s m d) e = refl
 
-returns : tie.Need-returns
-unfolding of_bits div neg
-returns c = above c.before.args.x c.if1.true
+pub returns-then-x : goal.returns-then-x
+unfolding div neg of_bits
+returns-then-x c = above c.args.x c.if-x.true
 
-returns-2 : tie.Need-returns-2
-unfolding of_bits div neg
-returns-2 c = not_above c.before.args.x c.if1.false
-
-pub is-finite-spec : {M : Type 1} → statement M
-is-finite-spec = tie.close (tie.spec returns returns-2)
+pub returns-else-x : goal.returns-else-x
+unfolding div neg of_bits
+returns-else-x c = not_above c.args.x c.if-x.false

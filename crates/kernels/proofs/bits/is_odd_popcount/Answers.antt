@@ -4,12 +4,8 @@ use Prim.Native.Nat.{ℕ, ◌%◌}
 use lib.Dec.{eqb}
 use Rattle.kernels.specs.Bits.{odd_ones}
 use Rattle.kernels.proofs.Laws.{ones_in_width}
-use Rattle.kernels.proofs.bits.is_odd_popcount.Statement.{statement}
-use Rattle.kernels.proofs.bits.is_odd_popcount.Tie as tie
+use Rattle.kernels.proofs.bits.is_odd_popcount.Goals as goal
 
-returns : tie.Need-returns
+pub returns : goal.returns
 unfolding odd_ones
 returns c = ap (λ (n : ℕ). eqb (n % 2) 1) (sym (ones_in_width 64 c.args.value c.ranges.value.fits))
-
-pub is-odd-popcount-spec : {M : Type 1} → statement M
-is-odd-popcount-spec = tie.close (tie.spec returns)
