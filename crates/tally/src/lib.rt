@@ -190,8 +190,8 @@ impl Tally {
 
     // After a rotation of k coordinates, and the join before it.
     pub fn rotated(self, join: Joining, k: u64) -> Self
-        requires fact_1 { JoinFits self join }
-        requires fact_2 { self.rotations + 1 < 2 ^ 64 }
+        requires join_fits { JoinFits self join }
+        requires row_fits { self.rotations + 1 < 2 ^ 64 }
         ensures { result ≡ rotated_tally self join k }
     {
         let mut next = self.joined(join);
@@ -205,10 +205,10 @@ impl Tally {
 
     // After a promotion at k coordinates.
     pub fn promoted(mut self, k: u64) -> Self
-        requires fact_1 { k < 512 }
-        requires fact_2 { self.live + 2 < 2 ^ 64 }
-        requires fact_3 { self.promotions + 1 < 2 ^ 64 }
-        requires fact_4 { self.quantum + 1 < 2 ^ 64 }
+        requires narrow { k < 512 }
+        requires live_fits { self.live + 2 < 2 ^ 64 }
+        requires row_fits { self.promotions + 1 < 2 ^ 64 }
+        requires counted { self.quantum + 1 < 2 ^ 64 }
         ensures { result ≡ promoted_tally self k }
     {
         self.dense = self.dense + 2.0 * exact_exp2(k);
@@ -225,8 +225,8 @@ impl Tally {
 
     // After a measurement of k coordinates, the join before it and the removal.
     pub fn measured(self, join: Joining, k: u64) -> Self
-        requires fact_1 { JoinFits self join }
-        requires fact_2 { self.measurements + 1 < 2 ^ 64 }
+        requires join_fits { JoinFits self join }
+        requires row_fits { self.measurements + 1 < 2 ^ 64 }
         ensures { result ≡ measured_tally self join k }
     {
         let mut next = self.joined(join);
