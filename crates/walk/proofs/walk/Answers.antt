@@ -90,6 +90,29 @@ offset_bounds-merges-offset c =
     let good = c.well_formed.1.1.1.1.0.1 in
     omega (arith, good)
 
+pub slice_bounds-join-end : goal.slice_bounds-join-end
+slice_bounds-join-end c =
+    let turn-now : get_or (instructions_of c.args.records.now) c.loop-i.i DormantBranch ≡ c.read-instruction.result = let words = c.args.records.now in
+    instruction_at words c.loop-i.i DormantBranch (omega (arith, c.loop-i-test.true, c.loop-i.invariant.count)) ∙ sym c.read-instruction.ensures in
+    let counted : c.open-act.result.join.count ≡ length (sources c.loop-i.invariant c.loop-i-test.true c.read-instruction.result (turn-now)) = ap (λ j. j.count) c.open-act.ensures.1 ∙ (join_count c.loop-i.state.size (sources c.loop-i.invariant c.loop-i-test.true c.read-instruction.result (turn-now))) in
+    let placed : let at = c.loop-i in
+    (at.tally.merges + c.open-act.result.join.count ≤ length c.open-act.new.merges)
+    × (take (at.tally.merges + c.open-act.result.join.count - at.tally.merges) (drop at.tally.merges c.open-act.new.merges)
+    ≡ sources at.invariant c.loop-i-test.true c.read-instruction.result (turn-now)) = let at = c.loop-i in
+    let count = counted in (
+      (let f = part_fits at.invariant c.loop-i-test.true c.read-instruction.result (turn-now) c.open-act.new.merges c.open-act.ensures.2 c.open-act.auto.merges in omega arith),
+      part_is at.invariant c.loop-i-test.true c.read-instruction.result (turn-now) c.open-act.new.merges c.open-act.ensures.2 c.open-act.auto.merges c.open-act.result.join.count count,
+    ) in
+    let inv = c.loop-i.invariant in
+    let more = c.loop-i-test.true in
+    let x = c.read-instruction.result in
+    let now = turn-now in
+    let fits = (placed).0 in
+    let kept = c.open-act.auto.merges in
+    let long = inv.long.merges in
+    let good = c.well_formed.1.1.1.1.0.1 in
+    fits
+
 pub join-state-requires : goal.join-state-requires
 join-state-requires c =
     let turn-now : get_or (instructions_of c.args.records.now) c.loop-i.i DormantBranch ≡ c.read-instruction.result = let words = c.args.records.now in
