@@ -40,7 +40,7 @@ returns-then-max_k-lt8 c =
     } in
     let peak_given : given c.in-Given.dense_peak ≡ head_answer c.args.head = ap dense_peak_of (sym c.in-Given.is) ∙ c.dense_peak-peak.ensures in
     let head_unread : unread c.args.head ≡ true = let h = c.args.head in
-    ⊎_elim (λ w. unread_small h w.taken) (λ w. unread_expected h w.1.taken) c.then-max_k-lt8.branch-raw in
+    ⊎_elim (λ w. unread_small h w.if-max_k-lt8.true) (λ w. unread_expected h w.if-nexpvals-ne0.true) c.then-max_k-lt8.branch-raw in
     let h = c.args.head in
     let peak = c.in-Given.dense_peak in
     answers h (words_of) (before_of) (cleared2-of) (planned (unread_plan h.initial_k peak)) _
@@ -70,11 +70,10 @@ returns-in-Refused c =
       groups = c.clear_all.new.groups;
     } in
     let h = c.args.head in
-    let told = c.peak-1.given in
-    answers h (words_of) (before_of) (cleared-of) (refused_at told.0.0 0) _
-    (plan_headless h (words_of) (lengths_of (before_of)) told.0.0 (ap dense_peak_of (sym told.1) ∙ c.dense_peak-peak.ensures))
+    answers h (words_of) (before_of) (cleared-of) (refused_at c.in-Refused.number 0) _
+    (plan_headless h (words_of) (lengths_of (before_of)) c.in-Refused.number (ap dense_peak_of (sym c.in-Refused.is) ∙ c.dense_peak-peak.ensures))
     refl
-    (zeros_held 0 0 told.0.0 0 (before_of) (before_of) (cleared-of) (same_here (before_of)) c.clear_all.ensures)
+    (zeros_held 0 0 c.in-Refused.number 0 (before_of) (before_of) (cleared-of) (same_here (before_of)) c.clear_all.ensures)
 
 pub returns-in-Refused-planned : goal.returns-in-Refused-planned
 returns-in-Refused-planned c =
@@ -117,9 +116,8 @@ returns-in-Refused-planned c =
     } in
     let peak_given : given c.in-Given.dense_peak ≡ head_answer c.args.head = ap dense_peak_of (sym c.in-Given.is) ∙ c.dense_peak-peak.ensures in
     let is_read : plan_of c.args.head (words_of) (lengths_of (before_of)) ≡ plan_read c.args.head (words_of) (lengths_of (before_of)) c.in-Given.dense_peak = plan_is_read c.args.head (words_of) (lengths_of (before_of)) _ (peak_given) (unread_neither c.args.head c.if-max_k-lt8.false c.if-nexpvals-ne0.false) in
-    let told = c.planned-1.given in
     refused_answers c.args.head _ (words_of) (before_of) (read_of) _ (is_read) c.plan_read-planned.ensures
-    told.0.0 told.0.1.0 (cleared3-of) told.1 (same_read) c.clear_all-in-Refused-planned.ensures
+    c.in-Refused-planned.number c.in-Refused-planned.index (cleared3-of) c.in-Refused-planned.is (same_read) c.clear_all-in-Refused-planned.ensures
 
 pub returns-in_default : goal.returns-in_default
 returns-in_default c =
@@ -144,5 +142,4 @@ returns-in_default c =
     } in
     let peak_given : given c.in-Given.dense_peak ≡ head_answer c.args.head = ap dense_peak_of (sym c.in-Given.is) ∙ c.dense_peak-peak.ensures in
     let is_read : plan_of c.args.head (words_of) (lengths_of (before_of)) ≡ plan_read c.args.head (words_of) (lengths_of (before_of)) c.in-Given.dense_peak = plan_is_read c.args.head (words_of) (lengths_of (before_of)) _ (peak_given) (unread_neither c.args.head c.if-max_k-lt8.false c.if-nexpvals-ne0.false) in
-    let told = c.enum_told-1.given in
-    planned_answers c.args.head _ (words_of) (before_of) (read_of) _ (is_read) c.plan_read-planned.ensures told.0.0 told.1
+    planned_answers c.args.head _ (words_of) (before_of) (read_of) _ (is_read) c.plan_read-planned.ensures c.in_default.field-0 c.in_default.is
