@@ -1,5 +1,7 @@
 // The planner's answer: the scalar fields of a plan with its whole works and the words it uses, or a refusal; and the two ways
 // a plan comes about, from a finished walk and with no record read.
+#![tactic(auto)]
+
 ghost use Rattle.std.specs.Prelude.{◌≡◌, false, pos, ◌*◌};
 ghost use Rattle.std.specs.Float.{fin};
 ghost use Rattle.definition.specs.WholeWorks.{whole_works_of};
@@ -13,7 +15,7 @@ use tally::WholeWorks;
 use walk::Summary;
 
 // The scalar fields of a plan, its works as whole numbers, and how many words of the first six outputs it uses.
-#[derive(Drop)]
+#[derive(Clone, Copy)]
 pub struct ActiveComponentPlan {
     pub selected: bool,
     pub initial_components: u64,
@@ -28,7 +30,7 @@ pub struct ActiveComponentPlan {
 }
 
 // The answer: a plan's scalar fields, or the first refusal's number and record index.
-#[derive(Drop)]
+#[derive(Clone, Copy)]
 pub enum Planned {
     Plan(ActiveComponentPlan),
     Refused { number: u64, index: u64 },

@@ -10,7 +10,7 @@ use lib.Dec.{eqb, ltb}
 use lib.ListN.{length}
 use lib.IntN.{pos}
 use lib.Ieee.{fin}
-use borrow.Author.Tests.{ltb-false, lt-ltb, le-ltb}
+use borrow.Author.Tests.{ltb-false, lt-ltb, le-ltb, eq-eqb, ne_eqb}
 use Rattle.kernels.specs.Bits.{dimension}
 use Rattle.kernels.specs.Active.{Answer, given, refused}
 use Rattle.records.specs.Pass.{record_pass}
@@ -248,8 +248,8 @@ or-true false b e = e
 pub unread_small : (h : Head) → h.max_k < 8 → unread h ≡ true
 unread_small h e = ap (λ (b : Bool). b || not (eqb h.nexpvals 0)) (lt-ltb h.max_k 8 e)
 
-pub unread_expected : (h : Head) → not (eqb h.nexpvals 0) ≡ true → unread h ≡ true
-unread_expected h e = or-true (ltb h.max_k 8) (not (eqb h.nexpvals 0)) e
+pub unread_expected : (h : Head) → (h.nexpvals ≡ 0 → ⊥) → unread h ≡ true
+unread_expected h n = or-true (ltb h.max_k 8) (not (eqb h.nexpvals 0)) (ap not (ne_eqb h.nexpvals 0 n))
 
-pub unread_neither : (h : Head) → 8 ≤ h.max_k → not (eqb h.nexpvals 0) ≡ false → unread h ≡ false
-unread_neither h large e = ap (λ (a : Bool). a || not (eqb h.nexpvals 0)) (le-ltb h.max_k 8 large) ∙ e
+pub unread_neither : (h : Head) → 8 ≤ h.max_k → h.nexpvals ≡ 0 → unread h ≡ false
+unread_neither h large e = ap (λ (a : Bool). a || not (eqb h.nexpvals 0)) (le-ltb h.max_k 8 large) ∙ ap not (eq-eqb h.nexpvals 0 e)

@@ -1,4 +1,6 @@
 // The component planner: the plan of a program, written into seven lent buffers.
+#![tactic(auto)]
+
 ghost use Rattle.component_plan.specs.Answer.{Answers, ReadAnswers};
 
 use answer::{Planned, plan_of, unread_plan};

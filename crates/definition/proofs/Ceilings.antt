@@ -2,7 +2,7 @@
 -- programs, which the oracle's second reading answers.
 use mathlib.Core.Path.{◌≡◌, refl}
 use mathlib.Core.List.{List, [], ◌∷◌, ◌++◌, map}
-use Prim.Native.Nat.{ℕ, ◌+◌, ◌-◌, ◌/◌, ◌^◌}
+use Prim.Native.Nat.{ℕ, ◌-◌, ◌/◌, ◌^◌}
 use lib.ListN.{length}
 use Rattle.definition.specs.Plan.{Result, planned, refused_at, plan_of}
 use Rattle.definition.specs.Circuits.{enough}

@@ -21,7 +21,7 @@ use Rattle.definition.proofs.Counting.{place_below, place_holds, member_at, leng
 use Rattle.definition.proofs.Steps.{Stepped, ignored, rotated, promoted, measured, recorded, detected, expected, branched, Run, done, more}
 use Rattle.definition.proofs.Joins.{gathered_from, gathered_holds}
 use Rattle.definition.proofs.LocalBits.{local_bit, local_clear, support_same, support_member}
-use Rattle.definition.proofs.Invariant.{listed_active, active_listed, sources, holds_source, anchored_cases}
+use Rattle.definition.proofs.Invariant.{listed_active, active_listed, holds_source, anchored_cases}
 use Rattle.definition.proofs.Growth.{Grown, AllOf, grown_trans, run_grown, step_steps}
 use Rattle.definition.proofs.Tracking.{Tracked, active_of, tracked_here, target_members, join_length, rotation_action, measurement_keeps, start_tracked, step_tracked}
 use Rattle.definition.proofs.Replay.{joined_components, ReplayIs, rotation_kind, rotation_row_lem, measurement_kind, measurement_row_lem, measurement_named, step_joined, step_replay}

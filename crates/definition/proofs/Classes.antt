@@ -107,7 +107,7 @@ class_keeps f [] a b e = e
 class_keeps f (s ∷ ss) a b e = class_keeps (merged f s) ss a b (merged_keeps f s a b e)
 
 -- all entries of a support have one class in the end
-pub class_joins : (f : ℕ → ℕ) {s : List ℕ} {ss : List (List ℕ)} (a b : ℕ) → Memᴰ s ss → Member a s → Member b s → class_from f ss a ≡ class_from f ss b
+pub class_joins : {s : List ℕ} (f : ℕ → ℕ) {ss : List (List ℕ)} (a b : ℕ) → Memᴰ s ss → Member a s → Member b s → class_from f ss a ≡ class_from f ss b
 class_joins f a b (Memᴰ.head {x} {xs} e) ma mb =
     class_keeps (merged f x) xs a b
     (merged_joins f x a b (a, subst (λ (l : List ℕ). Member a l) e ma, refl) (b, subst (λ (l : List ℕ). Member b l) e mb, refl))

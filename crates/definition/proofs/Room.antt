@@ -16,7 +16,6 @@ use lib.ListN.{length, get_or, set, length-set, length-append, length-map, repli
 use lib.Seq.{get_or-set_other, take-length}
 use lib.Pow.{pow_mono, pow-add}
 use borrow.Author.Tests.{ltb-false, ne_eqb}
-use Rattle.kernels.specs.Bits.{dimension}
 use Rattle.records.specs.Record.{kind, width, x_mask, z_mask, phase, pivot, flag, measurement_of, instructions_by_kind, instruction_of, record_at, records_of, instructions_of}
 use Rattle.records.specs.Pass.{coordinates_after, record_pass}
 use Rattle.records.specs.Sound.{Sound, coordinates_through}

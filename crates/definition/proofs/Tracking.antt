@@ -12,7 +12,7 @@ use lib.Dec.{eqb}
 use lib.ListN.{length, get_or, set, length-set, length-append, length-replicate}
 use lib.Ieee.{Float}
 use Rattle.kernels.specs.Bits.{dimension, bit_at, without_bit}
-use Rattle.kernels.specs.Active.{Answer, given, refused, action, rotation, rotation_kernel, measurement, measurement_kernel, nondiagonal, diagonal, of_dimension, imaginary}
+use Rattle.kernels.specs.Active.{Answer, given, refused, rotation, rotation_kernel, measurement, measurement_kernel, nondiagonal, diagonal, of_dimension, imaginary}
 use Rattle.kernels.specs.declared.active.ActivePauliAction.{ActivePauliAction}
 use Rattle.kernels.specs.declared.active.PrecomputedActivePauliRotationKernel.{PrecomputedActivePauliRotationKernel}
 use Rattle.kernels.specs.declared.active.PrecomputedActivePauliMeasurementKernel.{PrecomputedActivePauliMeasurementKernel}

@@ -1,4 +1,6 @@
 // Words of 64 bits in a file of bytes, the lowest byte first: written from a place on, read at a place, and zeros behind.
+#![tactic(auto)]
+
 ghost use Rattle.std.specs.Prelude.{◌≡◌, ◌++◌, ◌+◌, ◌-◌, ◌*◌, ◌^◌, ◌≤◌, ◌<◌, length, take, drop, replicate};
 ghost use Rattle.outputs.specs.Buffers.{patch};
 ghost use Rattle.file_words.specs.Words.{bytes_of, word_bytes, number_of, word_at, words_at};

@@ -7,7 +7,7 @@ use crate::bits::{
     ActiveLength, active_length, bit_at, highest_set_bit, is_odd_popcount, without_bit,
 };
 
-#[derive(Drop)]
+#[derive(Clone, Copy)]
 pub struct Complex64 {
     pub re: f64,
     pub im: f64,
@@ -15,7 +15,7 @@ pub struct Complex64 {
 
 // A Pauli as one word of X bits and one of Z bits. A basis index that overlaps the Z bits in an odd number of places
 // takes the odd phase, and any other the even one.
-#[derive(Drop)]
+#[derive(Clone, Copy)]
 pub struct ActivePauliAction {
     pub nqubits: u64,
     pub xmask: u64,
@@ -25,7 +25,7 @@ pub struct ActivePauliAction {
     pub xz_overlap_odd: bool,
 }
 
-#[derive(Drop)]
+#[derive(Clone, Copy)]
 pub struct PrecomputedActivePauliRotationKernel {
     pub action: ActivePauliAction,
     pub is_diagonal: bool,
@@ -39,7 +39,7 @@ pub struct PrecomputedActivePauliRotationKernel {
     pub minus_even_coefficient: Complex64,
 }
 
-#[derive(Drop)]
+#[derive(Clone, Copy)]
 pub struct PrecomputedActivePauliMeasurementKernel {
     pub action: ActivePauliAction,
     pub pivot: u64,
@@ -50,13 +50,13 @@ pub struct PrecomputedActivePauliMeasurementKernel {
     pub nondiagonal_coefficient1_even: Complex64,
 }
 
-#[derive(Drop)]
+#[derive(Clone, Copy)]
 pub enum RotationKernel {
     Built(PrecomputedActivePauliRotationKernel),
     TooLarge,
 }
 
-#[derive(Drop)]
+#[derive(Clone, Copy)]
 pub enum MeasurementKernel {
     Built(PrecomputedActivePauliMeasurementKernel),
     TooLarge,

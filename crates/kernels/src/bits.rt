@@ -3,7 +3,7 @@ ghost use Rattle.std.specs.Prelude.{◌≡◌};
 ghost use Rattle.kernels.specs.Bits.{odd_ones, highest_bit, bit_at, without_bit, exp2, dimension, dimension_of};
 
 // The number of amplitudes of a register, or that the register is too wide.
-#[derive(Drop)]
+#[derive(Clone, Copy)]
 pub enum ActiveLength {
     Length(u64),
     TooLarge,

@@ -1,5 +1,7 @@
 // What the entry asks before the walk and does after it: the head's dense peak or refusal 24 or 1, whether the lent buffers
 // are long enough, refusals 2 to 4, zeros behind the used words or everywhere, and the choice.
+#![tactic(auto)]
+
 ghost use Rattle.std.specs.Prelude.{◌≡◌, ◌^◌, ◌<◌};
 ghost use Rattle.definition.specs.Plan.{chosen, buffers_refused, refused_at};
 ghost use Rattle.lent.specs.Lent.{head_answer, dense_peak_of, Held, lent_number, UsedFit, RestCleared};
@@ -13,7 +15,7 @@ use walk::Summary;
 const LARGEST_CEILING: u64 = 62;
 
 // What the head alone decides: the dense peak, or a refusal's number.
-#[derive(Drop)]
+#[derive(Clone, Copy)]
 pub enum DensePeak {
     Given(u64),
     Refused(u64),

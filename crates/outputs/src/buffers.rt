@@ -58,7 +58,7 @@ pub fn allocated(sizes: &[u64]) -> u64
 }
 
 // Where the members of each component go, and how many words the groups take.
-#[derive(Drop)]
+#[derive(Clone, Copy)]
 pub struct Starts {
     pub start: [u16; 512],
     pub used: usize,
@@ -67,8 +67,8 @@ pub struct Starts {
 // Writes the member count of each component that has members, in the order of their numbers, with room for the members
 // behind each.
 pub fn write_counts(size: &[u8; 512], count: usize, groups: &mut [u64]) -> Starts
-    requires fact_1 { CountsFit (take count size.now) groups.old }
-    requires fact_2 { count ≤ 512 }
+    requires fits { CountsFit (take count size.now) groups.old }
+    requires few { count ≤ 512 }
     ensures { (result.start ≡ (counts_of (take count size.now) groups.old).start)
         × (result.used ≡ (counts_of (take count size.now) groups.old).used)
         × (groups.new ≡ (counts_of (take count size.now) groups.old).groups) }

@@ -1,8 +1,10 @@
 // What planning writes into the lent buffers beside rows and steps: longest sizes, groups, and zeros.
+#![tactic(auto)]
+
 pub mod buffers;
 
 // So many words of each of the first six outputs.
-#[derive(Drop)]
+#[derive(Clone, Copy)]
 pub struct WordCounts {
     pub steps: usize,
     pub merges: usize,

@@ -1,5 +1,7 @@
 // Writing the file of a plan into lent bytes, from the fields of its answer and the words that its outputs hold: the six
 // sections, the scalar words, the trailer, and zeros behind them.
+#![tactic(auto)]
+
 ghost use Rattle.std.specs.Prelude.{◌≡◌, ◌+◌, ◌*◌, ◌≤◌, ◌<◌, ◌^◌, length};
 ghost use Rattle.definition.specs.Plan.{padded};
 ghost use Rattle.stored_plan.specs.Stored.{bytes_of};

@@ -1,4 +1,6 @@
 // Readers of a plan: a row's sources as a part of the merge list, the steps, and the rows as structs.
+#![tactic(auto)]
+
 ghost use Rattle.std.specs.Prelude.{◌≡◌, ◌≤◌, length};
 ghost use Rattle.readers.specs.Reading.{part_of, flag_in, complex_in, action_in, rotation_in, measurement_in, step_at, step_read_of, rotation_at, rotation_read_of, rotation_or_zero, measurement_at, measurement_read_of, filled_rows};
 
@@ -9,7 +11,7 @@ use kernels::active::{
 use records::float_of;
 
 // A rotation row: where its sources stand in the merge list, and its kernel.
-#[derive(Drop)]
+#[derive(Clone, Copy)]
 pub struct RotationRow {
     pub component: u64,
     pub merge_offset: u64,
@@ -18,7 +20,7 @@ pub struct RotationRow {
 }
 
 // A measurement row. The last flag is set where the measurement takes the component's last coordinate.
-#[derive(Drop)]
+#[derive(Clone, Copy)]
 pub struct MeasurementRow {
     pub component: u64,
     pub merge_offset: u64,
@@ -28,21 +30,21 @@ pub struct MeasurementRow {
 }
 
 // A record's step, or a number past the last step.
-#[derive(Drop)]
+#[derive(Clone, Copy)]
 pub enum StepRead {
     Step { kind: u64, payload: u64 },
     PastEnd,
 }
 
 // A rotation row, or a number past the last whole row.
-#[derive(Drop)]
+#[derive(Clone, Copy)]
 pub enum RotationRead {
     Row(RotationRow),
     PastEnd,
 }
 
 // A measurement row, or a number past the last whole row.
-#[derive(Drop)]
+#[derive(Clone, Copy)]
 pub enum MeasurementRead {
     Row(MeasurementRow),
     PastEnd,

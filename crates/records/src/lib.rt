@@ -1,5 +1,7 @@
 // Instruction records: the head, the decoded instruction, reading a record and the record pass (01, section 2 and
 // "Where planning stops", refusals 5 to 10).
+#![tactic(auto)]
+
 ghost use Rattle.std.specs.Prelude.{◌≡◌, ◌<◌};
 ghost use Rattle.std.specs.Float.{binary64};
 ghost use Rattle.std.specs.Float.Ieee.{of_bits};
@@ -8,7 +10,7 @@ ghost use Rattle.records.specs.Record.{word_of, record_at, instruction_of, measu
 ghost use Rattle.records.specs.Pass.{within_one, action_number, floats_number, rotation_number, measurement_number, number_of, record_pass};
 
 // The head of a program (01, section 2; the ceiling: 02, CR 4).
-#[derive(Drop)]
+#[derive(Clone, Copy)]
 pub struct Head {
     pub initial_k: u64,
     pub max_k: u64,
@@ -17,7 +19,7 @@ pub struct Head {
 }
 
 // A decoded record (01, section 2). An expectation is a measurement with flag 1.
-#[derive(Drop)]
+#[derive(Clone, Copy)]
 pub enum Instruction {
     Rotation {
         width: u64,
@@ -43,7 +45,7 @@ pub enum Instruction {
 }
 
 // The record pass's answer: a refusal has its number and its record's index.
-#[derive(Drop)]
+#[derive(Clone, Copy)]
 pub enum Checked {
     Passed,
     Refused { number: u64, index: u64 },

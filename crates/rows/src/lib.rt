@@ -1,5 +1,7 @@
 // Rows as words. A row is written into the part of its buffer that begins at its offset: the functions here are lent that
 // part, and write its first words.
+#![tactic(auto)]
+
 ghost use Rattle.std.specs.Prelude.{◌≡◌, [], ◌∷◌, ◌++◌, ◌+◌, ◌*◌, ◌≤◌, length, drop};
 ghost use Rattle.definition.specs.Walk.{flag_word, bits_word, row_head, rotation_row, measurement_row};
 ghost use Rattle.outputs.specs.Buffers.{patch};
@@ -10,7 +12,7 @@ use kernels::active::{
 };
 
 // What a row says of its join: the component, and which part of the merge list has the sources.
-#[derive(Drop)]
+#[derive(Clone, Copy)]
 pub struct RowHead {
     pub component: u64,
     pub merge_offset: u64,

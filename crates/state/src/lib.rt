@@ -1,6 +1,8 @@
 // The state of planning, by active position. No member lists are kept: member j of a component is the coordinate at the
 // position that has that component and that place. Which coordinate that is stands beside the state, in the active order:
 // only the groups ask for it, and what the steps take and return by value is smaller without it.
+#![tactic(auto)]
+
 ghost use Rattle.std.specs.Prelude.{◌≡◌, ◌≤◌, ◌<◌, length, set};
 ghost use Rattle.state.specs.Steps.{InOrder, Closed, Started, Joinable, gathering, sizes_after, BeforeJoin, Joined, promoted, BeforeRemoval, Removed};
 ghost use Rattle.state.specs.Steps as Steps;

@@ -1,5 +1,7 @@
 // Storing a plan: head and records are planned into the seven outputs, and the plan's file is then written from them into lent
 // bytes. Nothing is allocated, and no copy of the file is made.
+#![tactic(auto)]
+
 ghost use Rattle.store.specs.Storing.{Stores};
 
 use answer::Planned;
@@ -10,7 +12,7 @@ use plan_file::{word_count, write_file};
 use records::Head;
 
 // The answer: the file's length in bytes, or the first refusal's number and record index.
-#[derive(Drop)]
+#[derive(Clone, Copy)]
 pub enum Stored {
     File { length: usize },
     Refused { number: u64, index: u64 },

@@ -1,5 +1,7 @@
 // Reading a stored plan: refusals 21 to 23, and else its sections into six lent outputs. The words come back as they stand:
 // only the trailer and component_count are looked at.
+#![tactic(auto)]
+
 ghost use Rattle.std.specs.Prelude.{◌≡◌, map, ◌+◌, ◌*◌, ◌≤◌, length};
 ghost use Rattle.definition.specs.Lists.{numbers_from};
 ghost use Rattle.definition.specs.Plan.{padded};
@@ -12,7 +14,7 @@ use outputs::WordCounts;
 use outputs::buffers::clear_from;
 
 // The words of the eight scalar fields, as a file has them.
-#[derive(Drop)]
+#[derive(Clone, Copy)]
 pub struct ScalarWords {
     pub selected: u64,
     pub initial_components: u64,
@@ -25,7 +27,7 @@ pub struct ScalarWords {
 }
 
 // What reading gives: the eight scalar words and how many words each output has, or the refusal's number.
-#[derive(Drop)]
+#[derive(Clone, Copy)]
 pub enum Loaded {
     Plan {
         scalars: ScalarWords,

@@ -1,6 +1,8 @@
 // Works, dimensions and counts, kept as the walk goes. Every sum of floats is in the order of the definition, each addition
 // rounded once. Beside them the works are kept as whole numbers modulo 2^64; they are handed out where no width passed 38,
 // and there they did not wrap.
+#![tactic(auto)]
+
 ghost use Rattle.std.specs.Prelude.{◌≡◌, ◌+◌, ◌*◌, ◌%◌, ◌^◌, ◌<◌, ◌≤◌, max, slice_index};
 ghost use Rattle.definition.specs.WholeWorks.{whole_works_of};
 ghost use Rattle.tally.specs.Tally.{Countable, joining_of, JoinFits, start_tally, joined_tally, ignored_tally, rotated_tally, promoted_tally, measured_tally, power_left, works_of};
@@ -13,7 +15,7 @@ const WIDEST: u64 = 38;
 
 // A join that is to be made: how many sources it has, the first of them, how many members they have together, the joining
 // cost as a float and as a whole number, and the sources' dimensions together.
-#[derive(Drop)]
+#[derive(Clone, Copy)]
 pub struct Joining {
     pub count: usize,
     pub target: u64,
@@ -25,7 +27,7 @@ pub struct Joining {
 
 // The works as floats and as whole numbers, the widest active width, the live dimension and its peak, and how many merges,
 // rows of each kind and quantum instructions there are.
-#[derive(Drop)]
+#[derive(Clone, Copy)]
 pub struct Tally {
     pub dense: f64,
     pub work: f64,
@@ -43,7 +45,7 @@ pub struct Tally {
 
 // Both works as whole numbers, and dense divided by component: not where a width passed 38, and no quotient where the
 // component work is 0.
-#[derive(Drop)]
+#[derive(Clone, Copy)]
 pub enum WholeWorks {
     TooWide,
     WithoutQuotient {
@@ -188,8 +190,8 @@ impl Tally {
 
     // After a rotation of k coordinates, and the join before it.
     pub fn rotated(self, join: Joining, k: u64) -> Self
-        requires fact_1 { JoinFits self join }
-        requires fact_2 { self.rotations + 1 < 2 ^ 64 }
+        requires join_fits { JoinFits self join }
+        requires row_fits { self.rotations + 1 < 2 ^ 64 }
         ensures { result ≡ rotated_tally self join k }
     {
         let mut next = self.joined(join);
@@ -203,10 +205,10 @@ impl Tally {
 
     // After a promotion at k coordinates.
     pub fn promoted(mut self, k: u64) -> Self
-        requires fact_1 { k < 512 }
-        requires fact_2 { self.live + 2 < 2 ^ 64 }
-        requires fact_3 { self.promotions + 1 < 2 ^ 64 }
-        requires fact_4 { self.quantum + 1 < 2 ^ 64 }
+        requires narrow { k < 512 }
+        requires live_fits { self.live + 2 < 2 ^ 64 }
+        requires row_fits { self.promotions + 1 < 2 ^ 64 }
+        requires counted { self.quantum + 1 < 2 ^ 64 }
         ensures { result ≡ promoted_tally self k }
     {
         self.dense = self.dense + 2.0 * exact_exp2(k);
@@ -223,8 +225,8 @@ impl Tally {
 
     // After a measurement of k coordinates, the join before it and the removal.
     pub fn measured(self, join: Joining, k: u64) -> Self
-        requires fact_1 { JoinFits self join }
-        requires fact_2 { self.measurements + 1 < 2 ^ 64 }
+        requires join_fits { JoinFits self join }
+        requires row_fits { self.measurements + 1 < 2 ^ 64 }
         ensures { result ≡ measured_tally self join k }
     {
         let mut next = self.joined(join);

@@ -1,4 +1,6 @@
 // What a record does besides changing the state: the sources of its join before, its row, its step and its sums after.
+#![tactic(auto)]
+
 ghost use Rattle.std.specs.Prelude.{◌≡◌, ◌+◌, ◌*◌, ◌%◌, ◌^◌, ◌<◌, ◌≤◌, cond, eqb, leb, length, get_or};
 ghost use Rattle.outputs.specs.Buffers.{patch};
 ghost use Rattle.positions.specs.Positions.{local_of};
@@ -16,14 +18,14 @@ use rows::{RowHead, put_measurement, put_rotation, put_step};
 use tally::{Joining, Tally, join_of};
 
 // A refusal's number, or 0 and the join that the record makes: one of no sources where it makes none.
-#[derive(Drop)]
+#[derive(Clone, Copy)]
 pub struct Opening {
     pub number: u64,
     pub join: Joining,
 }
 
 // A refusal's number, or 0 and the sums after the record.
-#[derive(Drop)]
+#[derive(Clone, Copy)]
 pub struct Closing {
     pub number: u64,
     pub tally: Tally,
@@ -128,9 +130,9 @@ fn local_action(
     width: u64,
     size: u64,
 ) -> ActivePauliAction
-    requires fact_1 { width < 64 }
-    requires fact_2 { local_of (x % 2 ^ width) place.now < 2 ^ 64 }
-    requires fact_3 { local_of (z % 2 ^ width) place.now < 2 ^ 64 }
+    requires narrow { width < 64 }
+    requires x_fits { local_of (x % 2 ^ width) place.now < 2 ^ 64 }
+    requires z_fits { local_of (z % 2 ^ width) place.now < 2 ^ 64 }
     ensures { result ≡ local_action_of place.now x z phase width size }
 {
     let local_x = local_mask(place, below_width(x, width));
@@ -167,8 +169,8 @@ pub fn rotate(
     sizes: &mut [u64],
     rotations: &mut [u64],
 ) -> Closing
-    requires fact_1 { JoinedFits place.now x z width index join tally steps.old sizes.old }
-    requires fact_2 { 21 * tally.rotations + 21 ≤ length rotations.old }
+    requires joined_fits { JoinedFits place.now x z width index join tally steps.old sizes.old }
+    requires row_room { 21 * tally.rotations + 21 ≤ length rotations.old }
     ensures { Settled (rotation_answer limit place.now x z phase angle sine cosine width join.size) result.number
         (RotationDone width index join tally result.tally steps.old sizes.old rotations.old steps.new sizes.new rotations.new) }
 {
@@ -239,8 +241,8 @@ pub fn measure<'a>(
     sizes: &mut [u64],
     measurements: &mut [u64],
 ) -> Closing
-    requires fact_1 { JoinedFits place.now x z width index join tally steps.old sizes.old }
-    requires fact_2 { 19 * tally.measurements + 19 ≤ length measurements.old }
+    requires joined_fits { JoinedFits place.now x z width index join tally steps.old sizes.old }
+    requires row_room { 19 * tally.measurements + 19 ≤ length measurements.old }
     ensures { Settled (measurement_answer limit component.now place.now x z phase pivot width join) result.number
         (MeasurementDone width index join tally result.tally steps.old sizes.old measurements.old steps.new sizes.new measurements.new) }
 {

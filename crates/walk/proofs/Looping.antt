@@ -17,7 +17,6 @@ use Rattle.kernels.specs.declared.active.PrecomputedActivePauliMeasurementKernel
 use Rattle.records.specs.Record.{instructions_of}
 use Rattle.records.specs.declared.Instruction.{Instruction}
 use Rattle.records.specs.declared.Instruction.TheVariants.{Rotation, Promotion, RecordMeasurement, RecordDetector, Measurement, Expectation, DormantBranch}
-use types.Run.{OneOf}
 use denote.Enum.Declared.{tag_of}
 use Rattle.records.specs.contracts.Instruction.{the_type}
 use Rattle.definition.specs.Lists.{concat}
@@ -474,23 +473,18 @@ module _ {limit k : ℕ} {ws : List ℕ} {n i : ℕ} {o : List ℕ} {s : State} 
   pub quantum_room : t.quantum + 1 < 2 ^ 64
   quantum_room = T.quantum_room limit k ws b lo.ok i next lo.w s t c lo.at lo.long
 
--- the kinds that do nothing
-nothing_kinds : (n : ℕ) → OneOf (2 ∷ 3 ∷ 5 ∷ 6 ∷ []) n → (n ≡ 0 → ⊥) × (n ≡ 1 → ⊥) × (n ≡ 4 → ⊥)
-nothing_kinds n (inl e) = (λ z. omega arith, λ z. omega arith, λ z. omega arith)
-nothing_kinds n (inr (inl e)) = (λ z. omega arith, λ z. omega arith, λ z. omega arith)
-nothing_kinds n (inr (inr (inl e))) = (λ z. omega arith, λ z. omega arith, λ z. omega arith)
-nothing_kinds n (inr (inr (inr e))) = (λ z. omega arith, λ z. omega arith, λ z. omega arith)
-
-pub does_nothing : (limit : ℕ) (w : Walk) (width : ℕ) (f : ℕ → ℕ → List ℕ) (x : Instruction) → OneOf (2 ∷ 3 ∷ 5 ∷ 6 ∷ []) (tag_of the_type x)
+-- the kinds that do nothing: neither a rotation nor a promotion nor a measurement
+pub does_nothing : (limit : ℕ) (w : Walk) (width : ℕ) (f : ℕ → ℕ → List ℕ) (x : Instruction)
+    → ((a b c d : ℕ) (e g h : Float) → x ≡ Rotation a b c d e g h → ⊥) → (x ≡ Promotion → ⊥) → ((a b c d e : ℕ) → x ≡ Measurement a b c d e → ⊥)
     → (step limit w x ≡ given (no_step w)) × (length (sources_before width f x) ≡ 0)
 unfolding step sources_before
-does_nothing limit w width f (Rotation a b c d e g h) k = absurd ((nothing_kinds 0 k).0 refl)
-does_nothing limit w width f Promotion k = absurd ((nothing_kinds 1 k).1 refl)
-does_nothing limit w width f (Measurement a b c d e) k = absurd ((nothing_kinds 4 k).2 refl)
-does_nothing limit w width f RecordMeasurement k = (refl, refl)
-does_nothing limit w width f RecordDetector k = (refl, refl)
-does_nothing limit w width f Expectation k = (refl, refl)
-does_nothing limit w width f DormantBranch k = (refl, refl)
+does_nothing limit w width f (Rotation a b c d e g h) r p m = absurd (r a b c d e g h refl)
+does_nothing limit w width f Promotion r p m = absurd (p refl)
+does_nothing limit w width f (Measurement a b c d e) r p m = absurd (m a b c d e refl)
+does_nothing limit w width f RecordMeasurement r p m = (refl, refl)
+does_nothing limit w width f RecordDetector r p m = (refl, refl)
+does_nothing limit w width f Expectation r p m = (refl, refl)
+does_nothing limit w width f DormantBranch r p m = (refl, refl)
 
 -- ---- where the loop begins and ends
 

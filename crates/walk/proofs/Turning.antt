@@ -166,7 +166,7 @@ module _ (limit k : ℕ) (ws : List ℕ) (b : Buffers) (ok : Walkable k ws b) (i
     costs : (join.cost ≡ joining_cost w.components j.sources) × (join.whole_cost ≡ j.cost % 2 ^ 64)
     unfolding joining_of join_of
     costs =
-        let e = J.cost-is s.size w.components j.sources (J.agree w roll tr s at.rep few x z active narrow) (J.some w roll tr s at.rep few x z active narrow) in
+        let e = J.cost_is s.size w.components j.sources (J.agree w roll tr s at.rep few x z active narrow) (J.some w roll tr s at.rep few x z active narrow) in
         (e.0, ap (λ (n : ℕ). n % 2 ^ 64) e.1)
 
     join_freed : join.freed ≡ powers s.size j.sources

@@ -1,5 +1,7 @@
 // The walk over the records. The state is a local of the walk's loop, and is moved by nothing but its own steps; the active
 // order stands beside it and is changed in place.
+#![tactic(auto)]
+
 ghost use Rattle.records.specs.Record.{instructions_of};
 ghost use Rattle.definition.specs.Walk.{start, walk_from};
 ghost use Rattle.walk.specs.Walking.{Walkable, WalkEnds};
@@ -13,14 +15,14 @@ use turns::{measure, open, promote, rotate};
 
 // What a finished walk leaves beside the buffers: the sums, how many components were made, and how many words the groups
 // take.
-#[derive(Drop)]
+#[derive(Clone, Copy)]
 pub struct Summary {
     pub tally: Tally,
     pub count: usize,
     pub groups: usize,
 }
 
-#[derive(Drop)]
+#[derive(Clone, Copy)]
 pub enum Walked {
     Finished(Summary),
     Stopped { number: u64, index: u64 },

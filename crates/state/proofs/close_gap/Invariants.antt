@@ -1,0 +1,16 @@
+use Rattle.std.proofs.Common.{rules}
+use mathlib.Core.Path.{◌≡◌, refl, sym, ap, ◌∙◌}
+use Prim.Native.Nat.{ℕ, ◌+◌, ◌-◌, ◌<◌, ◌≤◌}
+use native.Mathlib.Omega.{arith}
+use lib.ListN.{length, get_or, length-set}
+use Rattle.positions.proofs.Arrays.{store_below, store_above}
+use Rattle.state.specs.Steps.{skip}
+use Rattle.state.proofs.Numbers.{skip_before, skip_behind}
+use Rattle.state.proofs.close_gap.Given as goal
+
+abbrev pub invariant-loop-p : goal.invariant-loop-p
+invariant-loop-p l = (l.pivot ≤ l.p) × (l.p ≤ l.last) × (length l.order ≡ 512)
+    × ((q : ℕ) → q < l.p → get_or l.order q 0 ≡ get_or l.initial.order (skip l.pivot q) 0) × ((q : ℕ) → l.p ≤ q → get_or l.order q 0 ≡ get_or l.initial.order q 0)
+
+abbrev pub decreases-loop-p : goal.decreases-loop-p
+decreases-loop-p l = l.last - l.p
