@@ -1,0 +1,64 @@
+-- `write_file` meets its contract: each section is written where the one before it ends, then the trailer, and the rest is cleared.
+use Rattle.std.proofs.Common.{rules}
+use mathlib.Core.Path.{◌≡◌, refl, ap, ◌∙◌}
+use mathlib.Core.List.{List, ◌++◌}
+use Prim.Native.Nat.{ℕ, ◌+◌, ◌-◌, ◌*◌}
+use native.Mathlib.Omega.{arith}
+use lib.ListN.{length, take, replicate}
+use Rattle.definition.specs.Plan.{padded}
+use Rattle.outputs.specs.Buffers.{patch}
+use Rattle.file_words.specs.Words.{word_bytes}
+use Rattle.stored_plan.specs.Stored.{Kept, sections_of, trailer_of}
+use Rattle.plan_file.specs.Writing.{scalars_in}
+use Rattle.plan_file.proofs.Writing.{none_written, section_written, rest_cleared, trailer_is, words_written}
+use Rattle.plan_file.proofs.write_file.Goals as goal
+
+pub overflow_add-at-5 : goal.overflow_add-at-5
+overflow_add-at-5 c = omega (arith, c)
+
+pub overflow_add-at-6 : goal.overflow_add-at-6
+overflow_add-at-6 c = omega (arith, c)
+
+pub trailer_words-trailer-requires : goal.trailer_words-trailer-requires
+trailer_words-trailer-requires c = omega (arith, c)
+
+pub overflow_add-at-7 : goal.overflow_add-at-7
+overflow_add-at-7 c = omega (arith, c)
+
+pub put_words-requires-8 : goal.put_words-requires-8
+put_words-requires-8 c =
+    let long = ap length c.trailer_words-trailer.ensures in
+    omega (arith, long, c, c.put_words.auto.file, c.put_words-2.auto.file, c.put_words-3.auto.file, c.put_words-4.auto.file, c.put_words-5.auto.file, c.put_words-6.auto.file, c.put_words-7.auto.file)
+
+pub overflow_add-at-8 : goal.overflow_add-at-8
+overflow_add-at-8 c = omega (arith, c)
+
+pub overflow_mul-at : goal.overflow_mul-at
+overflow_mul-at c = omega (arith, c)
+
+pub returns : goal.returns
+returns c =
+    let a = c.args in
+    let file = a.file.now in
+    let k : Kept = record { steps = a.steps.now; merges = a.merges.now; sizes = a.sizes.now; rotations = a.rotations.now; promotions = a.promotions.now; measurements = a.measurements.now; scalars = scalars_in a.plan } in
+    let room = c.requires in
+    let scalars = c.scalar_words-scalars.ensures in
+    let trailer = c.trailer_words-trailer.ensures in
+    let one = section_written a.steps.now c.put_words.new.file (none_written file) (omega (arith, room)) c.put_words.ensures in
+    let two = section_written a.merges.now c.put_words-2.new.file one (omega (arith, room)) c.put_words-2.ensures in
+    let three = section_written a.sizes.now c.put_words-3.new.file two (omega (arith, room)) c.put_words-3.ensures in
+    let four = section_written a.rotations.now c.put_words-4.new.file three (omega (arith, room)) c.put_words-4.ensures in
+    let five = section_written a.promotions.now c.put_words-5.new.file four (omega (arith, room)) c.put_words-5.ensures in
+    let six = section_written a.measurements.now c.put_words-6.new.file five (omega (arith, room)) c.put_words-6.ensures in
+    let at = 0 + length a.steps.now + length a.merges.now + length a.sizes.now + length a.rotations.now + length a.promotions.now + length a.measurements.now in
+    let seven =
+    section_written (scalars_in a.plan) c.put_words-7.new.file six (omega (arith, room))
+    (c.put_words-7.ensures ∙ ap (λ (l : List ℕ). patch (8 * at) (word_bytes l) c.put_words-6.new.file) scalars) in
+    let eight =
+    section_written (trailer_of (sections_of k)) c.put_words-8.new.file seven (omega (arith, room))
+    (c.put_words-8.ensures ∙ ap (λ (l : List ℕ). patch (8 * (at + 8)) (word_bytes l) c.put_words-7.new.file) (trailer ∙ trailer_is k refl)) in
+    let end : at + 24 ≡ at + 8 + 16 = omega arith in
+    let filled = c.put_words-8.new.file in
+    rest_cleared c.clear_bytes.new.file eight
+    (c.clear_bytes.ensures ∙ ap (λ (n : ℕ). take (8 * n) filled ++ replicate (length filled - 8 * n) 0) end)
+    ∙ ap (λ (l : List ℕ). padded (length file) (word_bytes l)) (words_written k)

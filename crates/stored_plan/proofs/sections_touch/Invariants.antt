@@ -1,0 +1,18 @@
+use Rattle.std.proofs.Common.{rules}
+use mathlib.Core.Path.{◌≡◌, refl, sym, ap, ◌∙◌}
+use mathlib.Core.List.{map}
+use Prim.Native.Nat.{ℕ, ◌+◌, ◌-◌, ◌*◌, ◌≤◌}
+use native.Mathlib.Nat.{add_assoc}
+use native.Mathlib.Omega.{arith}
+use Rattle.definition.specs.Lists.{numbers_from}
+use Rattle.file_words.specs.Words.{word_at}
+use Rattle.stored_plan.specs.Reading.{touch}
+use Rattle.stored_plan.proofs.Touching.{turn_misplaced, turn_past, turn_touches}
+use Rattle.stored_plan.proofs.sections_touch.Given as goal
+
+abbrev pub invariant-loop-s : goal.invariant-loop-s
+invariant-loop-s l = (l.s ≤ 7) × (l.at ≤ l.trailer)
+    × (touch 0 l.trailer (map (λ i. word_at l.file (l.trailer + i)) (numbers_from 0 14)) ≡ touch l.at l.trailer (map (λ i. word_at l.file (l.trailer + i)) (numbers_from (2 * l.s) (14 - 2 * l.s))))
+
+abbrev pub decreases-loop-s : goal.decreases-loop-s
+decreases-loop-s l = 7 - l.s
