@@ -23,7 +23,7 @@ fn main() {
     let archive = folder().join("libmidvokt.a");
     let archive = fs::canonicalize(&archive).unwrap_or_else(|error| {
         panic!(
-            "{}: {error}; run 'rt staticlib midvokt' or set {FOLDER}",
+            "{}: {error}; run 'tools/static-library' or set {FOLDER}",
             archive.display()
         )
     });

@@ -1,5 +1,5 @@
-// The library as C and Rust link it: plain words in and out. Planning stands here, storing and reading plans in `stored`;
-// include/midvokt.h has the declarations.
+// The library's calls: plain words in and out. Planning stands here, storing and reading plans in `stored`. The crate `midvokt_c`
+// exports them, as C and Rust link them; include/midvokt.h has the declarations.
 #![tactic(auto)]
 
 pub mod stored;
@@ -98,8 +98,7 @@ fn write_result(planned: Planned, res: &mut [u64])
 }
 
 // Plans a program into the seven buffers and the result; 0, or the refusal's number.
-#[unsafe(no_mangle)]
-pub extern "C" fn midvokt_plan(
+pub fn midvokt_plan(
     initial_k: u64,
     max_k: u64,
     nexpvals: u64,
@@ -114,7 +113,7 @@ pub extern "C" fn midvokt_plan(
     groups: &mut [u64],
     res: &mut [u64],
 ) -> u64
-    ensures { Replies (record { initial_k = initial_k; max_k = max_k; nexpvals = nexpvals; ceiling = ceiling }) records.now (record { steps = steps.entry.now; merges = merges.old; sizes = sizes.old; rotations = rotations.old; promotions = promotions.old; measurements = measurements.old; groups = groups.old }) (record { steps = steps.exit.now; merges = merges.new; sizes = sizes.new; rotations = rotations.new; promotions = promotions.new; measurements = measurements.new; groups = groups.new }) res.old res.new result }
+    ensures { Replies (record { initial_k = initial_k; max_k = max_k; nexpvals = nexpvals; ceiling = ceiling }) records.now (record { steps = steps.old; merges = merges.old; sizes = sizes.old; rotations = rotations.old; promotions = promotions.old; measurements = measurements.old; groups = groups.old }) (record { steps = steps.new; merges = merges.new; sizes = sizes.new; rotations = rotations.new; promotions = promotions.new; measurements = measurements.new; groups = groups.new }) res.old res.new result }
 {
     let head = Head {
         initial_k,

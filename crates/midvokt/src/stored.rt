@@ -1,4 +1,4 @@
-// Stored plans as C and Rust link them: a plan written into a file's bytes, and read back from them.
+// Stored plans: a plan written into a file's bytes, and read back from them.
 ghost use Rattle.std.specs.Prelude.{◌≡◌, length, get_or};
 ghost use Rattle.stored_plan.specs.Loading as Loading;
 ghost use Rattle.store.specs.Storing as Storing;
@@ -84,8 +84,7 @@ fn load_words(loaded: Loaded) -> [u64; 15]
 }
 
 // Plans a program into the seven buffers and stores the plan in the file; 0, or the refusal's number.
-#[unsafe(no_mangle)]
-pub extern "C" fn midvokt_store(
+pub fn midvokt_store(
     initial_k: u64,
     max_k: u64,
     nexpvals: u64,
@@ -101,7 +100,7 @@ pub extern "C" fn midvokt_store(
     file: &mut [u8],
     res: &mut [u64],
 ) -> u64
-    ensures { StoreReplies (record { initial_k = initial_k; max_k = max_k; nexpvals = nexpvals; ceiling = ceiling }) records.now (record { steps = steps.entry.now; merges = merges.old; sizes = sizes.old; rotations = rotations.old; promotions = promotions.old; measurements = measurements.old; groups = groups.old }) (record { steps = steps.exit.now; merges = merges.new; sizes = sizes.new; rotations = rotations.new; promotions = promotions.new; measurements = measurements.new; groups = groups.new }) file.old file.new res.old res.new result }
+    ensures { StoreReplies (record { initial_k = initial_k; max_k = max_k; nexpvals = nexpvals; ceiling = ceiling }) records.now (record { steps = steps.old; merges = merges.old; sizes = sizes.old; rotations = rotations.old; promotions = promotions.old; measurements = measurements.old; groups = groups.old }) (record { steps = steps.new; merges = merges.new; sizes = sizes.new; rotations = rotations.new; promotions = promotions.new; measurements = measurements.new; groups = groups.new }) file.old file.new res.old res.new result }
 {
     let head = Head {
         initial_k,
@@ -127,8 +126,7 @@ pub extern "C" fn midvokt_store(
 }
 
 // Reads a stored plan into the six buffers and the result; 0, or the refusal's number.
-#[unsafe(no_mangle)]
-pub extern "C" fn midvokt_load(
+pub fn midvokt_load(
     file: &[u8],
     steps: &mut [u64],
     merges: &mut [u64],
@@ -138,7 +136,7 @@ pub extern "C" fn midvokt_load(
     measurements: &mut [u64],
     res: &mut [u64],
 ) -> u64
-    ensures { LoadReplies file.now (record { steps = steps.entry.now; merges = merges.old; sizes = sizes.old; rotations = rotations.old; promotions = promotions.old; measurements = measurements.old }) (record { steps = steps.exit.now; merges = merges.new; sizes = sizes.new; rotations = rotations.new; promotions = promotions.new; measurements = measurements.new }) res.old res.new result }
+    ensures { LoadReplies file.now (record { steps = steps.old; merges = merges.old; sizes = sizes.old; rotations = rotations.old; promotions = promotions.old; measurements = measurements.old }) (record { steps = steps.new; merges = merges.new; sizes = sizes.new; rotations = rotations.new; promotions = promotions.new; measurements = measurements.new }) res.old res.new result }
 {
     let loaded = load(
         file,

@@ -1,12 +1,15 @@
 // Replays fixed vectors against the proved planner and prints how many agree. Standard input holds them: programs with the
 // answers of the published Rust, and under ceilings below 62 with those made of its answers, as tests/vectors/make writes
 // and describes them.
+#![tactic(auto)]
+
 ghost use Rattle.std.specs.Prelude.{◌≡◌, true, false, ◌+◌, ◌≤◌, ◌<◌, length, get_or};
 ghost use Rattle.definition.specs.Plan.{padded};
 ghost use Rattle.replay.specs.Head.{HasRoom};
 
-use libc::{STDIN_FILENO, STDOUT_FILENO};
 use midvokt::midvokt_plan;
+use std::io;
+use std::io::{ErrorKind, Read};
 
 // What was found of a vector: it was read, and whether it agrees as far as it was compared; or why it was not read.
 #[derive(Clone, Copy)]
@@ -42,20 +45,23 @@ fn room() -> [u64; 4096]
 }
 
 // Reads words until the slice is full; whether there were that many.
-fn read_words(words: &mut [u64]) -> bool
+fn read_words(input: &mut impl Read, words: &mut [u64]) -> io::Result<bool>
     requires { length words.old ≤ 4096 }
 {
-    let mut bytes = io::large_buffer();
+    let mut bytes = [0u8; 65536];
     let n = words.len() * 8;
-    if io::read_full(STDIN_FILENO, &mut bytes[0..n]) < n {
-        return false;
+    if let Err(error) = input.read_exact(&mut bytes[0..n]) {
+        if error.kind() == ErrorKind::UnexpectedEof {
+            return Ok(false);
+        }
+        return Err(error);
     }
     let mut i: usize = 0;
     while i < words.len() {
         words[i] = word_at(&bytes, i * 8);
         i += 1;
     }
-    true
+    Ok(true)
 }
 
 // The word at a place of a list, and 0 behind its end.
@@ -99,45 +105,46 @@ fn too_long(head: &[u64; 12]) -> bool
 
 // The length at a place of the head: that of the records, or of a buffer.
 fn length_at(head: &[u64; 12], at: usize) -> usize
-    requires fact_1 { (4 ≤ at) × (at < 12) }
-    requires fact_2 { HasRoom head.now }
+    requires place { (4 ≤ at) × (at < 12) }
+    requires room { HasRoom head.now }
     ensures { (result ≡ get_or head.now at 0) × (result ≤ 4096) }
 {
     head[at] as usize
 }
 
 // Reads what the next buffer should hold, and compares, where all before was read.
-fn compare_output(so_far: Found, buffer: &[u64]) -> Found {
+fn compare_output(input: &mut impl Read, so_far: Found, buffer: &[u64]) -> io::Result<Found> {
     let Found::Read(agrees) = so_far else {
-        return so_far;
+        return Ok(so_far);
     };
     let mut count = [0u64; 1];
-    if !read_words(&mut count) {
-        return Found::CutShort;
+    if !read_words(input, &mut count)? {
+        return Ok(Found::CutShort);
     }
     let n = count[0] as usize;
     if 4096 < n {
-        return Found::TooLong;
+        return Ok(Found::TooLong);
     }
     let mut space = room();
     let used = &mut space[0..n];
-    if !read_words(used) {
-        return Found::CutShort;
+    if !read_words(input, used)? {
+        return Ok(Found::CutShort);
     }
-    Found::Read(holds(buffer, used) && agrees)
+    Ok(Found::Read(holds(buffer, used) && agrees))
 }
 
 // Reads the number and the fourteen words that the call should give, and compares.
-fn compare_answer(number: u64, res: &[u64; 14]) -> Found {
+fn compare_answer(input: &mut impl Read, number: u64, res: &[u64; 14]) -> io::Result<Found> {
     let mut expected = [0u64; 15];
-    if !read_words(&mut expected) {
-        return Found::CutShort;
+    if !read_words(input, &mut expected)? {
+        return Ok(Found::CutShort);
     }
-    Found::Read(holds(res, &expected[1..]) && number == expected[0])
+    Ok(Found::Read(holds(res, &expected[1..]) && number == expected[0]))
 }
 
 // Plans a program into the buffers, and compares the answer and every word of each buffer.
 fn plan_and_compare(
+    input: &mut impl Read,
     head: &[u64; 12],
     records: &[u64],
     steps: &mut [u64],
@@ -147,8 +154,8 @@ fn plan_and_compare(
     promotions: &mut [u64],
     measurements: &mut [u64],
     groups: &mut [u64],
-) -> Found {
-    let mut result = [7u64; 14];
+) -> io::Result<Found> {
+    let mut res = [7u64; 14];
     let number = midvokt_plan(
         head[0],
         head[1],
@@ -162,20 +169,20 @@ fn plan_and_compare(
         promotions,
         measurements,
         groups,
-        &mut result,
+        &mut res,
     );
-    let mut found = compare_answer(number, &result);
-    found = compare_output(found, steps);
-    found = compare_output(found, merges);
-    found = compare_output(found, sizes);
-    found = compare_output(found, rotations);
-    found = compare_output(found, promotions);
-    found = compare_output(found, measurements);
-    compare_output(found, groups)
+    let mut found = compare_answer(input, number, &res)?;
+    found = compare_output(input, found, steps)?;
+    found = compare_output(input, found, merges)?;
+    found = compare_output(input, found, sizes)?;
+    found = compare_output(input, found, rotations)?;
+    found = compare_output(input, found, promotions)?;
+    found = compare_output(input, found, measurements)?;
+    compare_output(input, found, groups)
 }
 
 // Plans into buffers of the lengths that the vector gives, with no zero in them before.
-fn plan_in_buffers(head: &[u64; 12], records: &[u64]) -> Found
+fn plan_in_buffers(input: &mut impl Read, head: &[u64; 12], records: &[u64]) -> io::Result<Found>
     requires { HasRoom head.now }
 {
     let mut steps = room();
@@ -186,6 +193,7 @@ fn plan_in_buffers(head: &[u64; 12], records: &[u64]) -> Found
     let mut measurements = room();
     let mut groups = room();
     plan_and_compare(
+        input,
         head,
         records,
         &mut steps[0..length_at(head, 5)],
@@ -199,57 +207,58 @@ fn plan_in_buffers(head: &[u64; 12], records: &[u64]) -> Found
 }
 
 // Reads the next vector and replays it.
-fn replay_next() -> Found {
+fn replay_next(input: &mut impl Read) -> io::Result<Found> {
     let mut head = [0u64; 12];
-    if !read_words(&mut head) {
-        return Found::CutShort;
+    if !read_words(input, &mut head)? {
+        return Ok(Found::CutShort);
     }
     if too_long(&head) {
-        return Found::TooLong;
+        return Ok(Found::TooLong);
     }
     let n = length_at(&head, 4);
     let mut space = room();
     let records = &mut space[0..n];
-    if !read_words(records) {
-        return Found::CutShort;
+    if !read_words(input, records)? {
+        return Ok(Found::CutShort);
     }
-    plan_in_buffers(&head, records)
+    plan_in_buffers(input, &head, records)
 }
 
 // Prints a text, a number and a text.
-fn put(before: &[u8], number: u64, after: &[u8]) {
-    io::write_all(STDOUT_FILENO, before);
-    io::print_decimal(STDOUT_FILENO, number);
-    io::write_all(STDOUT_FILENO, after);
+fn put(rt: &impl Print, before: &str, number: u64, after: &str) -> io::Result<()> {
+    rt.print(before)?;
+    rt.print(number)?;
+    rt.print(after)
 }
 
 // Prints a line on a vector that does not agree or was not read.
-fn tell(index: u64, found: Found) {
+fn tell(rt: &impl Print, index: u64, found: Found) -> io::Result<()> {
     match found {
         Found::Read(agrees) => {
             if !agrees {
-                put(b"vector ", index, b": differs\n");
+                put(rt, "vector ", index, ": differs\n")?;
             }
+            Ok(())
         }
-        Found::TooLong => put(b"vector ", index, b": too long\n"),
-        Found::CutShort => put(b"the list ends in vector ", index, b"\n"),
+        Found::TooLong => put(rt, "vector ", index, ": too long\n"),
+        Found::CutShort => put(rt, "the list ends in vector ", index, "\n"),
     }
 }
 
 // Prints how many vectors there are, agree and differ.
-fn sum_up(count: u64, agree: u64, differ: u64) {
-    put(b"", count, b" vectors: ");
-    put(b"", agree, b" agree, ");
-    put(b"", differ, b" differ\n");
+fn sum_up(rt: &impl Print, count: u64, agree: u64, differ: u64) -> io::Result<()> {
+    put(rt, "", count, " vectors: ")?;
+    put(rt, "", agree, " agree, ")?;
+    put(rt, "", differ, " differ\n")
 }
 
 // Replays that many vectors, up to the first that cannot be read, and prints how many agree.
-fn replay_all(count: u64) {
+fn replay_all(rt: &impl Print, input: &mut impl Read, count: u64) -> io::Result<()> {
     let mut agree: u64 = 0;
     let mut i: u64 = 0;
     while i < count {
-        let found = replay_next();
-        tell(i, found);
+        let found = replay_next(input)?;
+        tell(rt, i, found)?;
         let Found::Read(agrees) = found else {
             break;
         };
@@ -258,15 +267,16 @@ fn replay_all(count: u64) {
         }
         i += 1;
     }
-    sum_up(count, agree, i - agree);
+    sum_up(rt, count, agree, i - agree)
 }
 
 // Reads the number of vectors and replays them.
-fn main() {
+fn main(rt: HostRuntime) -> io::Result<()> {
+    let mut input = rt.reader();
     let mut count = [0u64; 1];
-    if read_words(&mut count) {
-        replay_all(count[0]);
+    if read_words(&mut input, &mut count)? {
+        replay_all(&rt, &mut input, count[0])
     } else {
-        io::write_all(STDOUT_FILENO, b"the list ends before its first vector\n");
+        rt.println("the list ends before its first vector")
     }
 }

@@ -1,0 +1,109 @@
+// The library as C and Rust link it: each export makes the call of its name, in the crate `midvokt`, and states its clause
+// again. include/midvokt.h has the declarations.
+#![tactic(auto)]
+
+ghost use Rattle.midvokt.specs.Reply.{Replies};
+ghost use Rattle.midvokt.specs.Stored.{StoreReplies, LoadReplies};
+
+use midvokt::midvokt_plan as plan;
+use midvokt::stored::{midvokt_load as load, midvokt_store as store};
+
+// Plans a program into the seven buffers and the result; 0, or the refusal's number.
+#[unsafe(no_mangle)]
+pub extern "C" fn midvokt_plan(
+    initial_k: u64,
+    max_k: u64,
+    nexpvals: u64,
+    ceiling: u64,
+    records: &[u64],
+    steps: &mut [u64],
+    merges: &mut [u64],
+    sizes: &mut [u64],
+    rotations: &mut [u64],
+    promotions: &mut [u64],
+    measurements: &mut [u64],
+    groups: &mut [u64],
+    res: &mut [u64],
+) -> u64
+    ensures { Replies (record { initial_k = initial_k; max_k = max_k; nexpvals = nexpvals; ceiling = ceiling }) records.now (record { steps = steps.old; merges = merges.old; sizes = sizes.old; rotations = rotations.old; promotions = promotions.old; measurements = measurements.old; groups = groups.old }) (record { steps = steps.new; merges = merges.new; sizes = sizes.new; rotations = rotations.new; promotions = promotions.new; measurements = measurements.new; groups = groups.new }) res.old res.new result }
+{
+    plan(
+        initial_k,
+        max_k,
+        nexpvals,
+        ceiling,
+        records,
+        steps,
+        merges,
+        sizes,
+        rotations,
+        promotions,
+        measurements,
+        groups,
+        res,
+    )
+}
+
+// Plans a program into the seven buffers and stores the plan in the file; 0, or the refusal's number.
+#[unsafe(no_mangle)]
+pub extern "C" fn midvokt_store(
+    initial_k: u64,
+    max_k: u64,
+    nexpvals: u64,
+    ceiling: u64,
+    records: &[u64],
+    steps: &mut [u64],
+    merges: &mut [u64],
+    sizes: &mut [u64],
+    rotations: &mut [u64],
+    promotions: &mut [u64],
+    measurements: &mut [u64],
+    groups: &mut [u64],
+    file: &mut [u8],
+    res: &mut [u64],
+) -> u64
+    ensures { StoreReplies (record { initial_k = initial_k; max_k = max_k; nexpvals = nexpvals; ceiling = ceiling }) records.now (record { steps = steps.old; merges = merges.old; sizes = sizes.old; rotations = rotations.old; promotions = promotions.old; measurements = measurements.old; groups = groups.old }) (record { steps = steps.new; merges = merges.new; sizes = sizes.new; rotations = rotations.new; promotions = promotions.new; measurements = measurements.new; groups = groups.new }) file.old file.new res.old res.new result }
+{
+    store(
+        initial_k,
+        max_k,
+        nexpvals,
+        ceiling,
+        records,
+        steps,
+        merges,
+        sizes,
+        rotations,
+        promotions,
+        measurements,
+        groups,
+        file,
+        res,
+    )
+}
+
+// Reads a stored plan into the six buffers and the result; 0, or the refusal's number.
+#[unsafe(no_mangle)]
+pub extern "C" fn midvokt_load(
+    file: &[u8],
+    steps: &mut [u64],
+    merges: &mut [u64],
+    sizes: &mut [u64],
+    rotations: &mut [u64],
+    promotions: &mut [u64],
+    measurements: &mut [u64],
+    res: &mut [u64],
+) -> u64
+    ensures { LoadReplies file.now (record { steps = steps.old; merges = merges.old; sizes = sizes.old; rotations = rotations.old; promotions = promotions.old; measurements = measurements.old }) (record { steps = steps.new; merges = merges.new; sizes = sizes.new; rotations = rotations.new; promotions = promotions.new; measurements = measurements.new }) res.old res.new result }
+{
+    load(
+        file,
+        steps,
+        merges,
+        sizes,
+        rotations,
+        promotions,
+        measurements,
+        res,
+    )
+}
