@@ -23,14 +23,10 @@ first_word : (p : ActiveComponentPlan) (i : ℕ) → i < 9 → (0 < i → 9 ≤ 
 first_word p zero small far = refl
 first_word p (suc i) small far = let h = far (omega arith) in absurd (omega arith)
 
-past : (k i : ℕ) → k ≤ i → (i ≡ k → ⊥) → suc k ≤ i
-past k i h not = omega (arith, not)
-
 pub returns-then-i-lt9 : goal.returns-then-i-lt9
 returns-then-i-lt9 c =
     let i = c.args.i in
-    let r = c.in_default.in_default-own.rest in
-    first_word c.args.plan i c.if-i-lt9.true (λ above. past 8 i (past 7 i (past 6 i (past 5 i (past 4 i (past 3 i (past 2 i (past 1 i above r.0.0.0.0.0.0.0.1) r.0.0.0.0.0.0.1) r.0.0.0.0.0.1) r.0.0.0.0.1) r.0.0.0.1) r.0.0.1) r.0.1) r.1)
+    first_word c.args.plan i c.if-i-lt9.true (λ above. omega arith)
 
 pub returns-in-1 : goal.returns-in-1
 returns-in-1 c = rw c.in-1.is c.flag_word.ensures

@@ -34,8 +34,7 @@ returns-in-TooWide c = rw c.in-TooWide.is (zeros c.args.i)
 pub returns-in_default : goal.returns-in_default
 returns-in_default c =
     let i = c.args.i in
-    let r = c.in_default.in_default-own.rest in
-    rw c.in-WithoutQuotient.is (after_two _ _ i (omega (arith, r)))
+    rw c.in-WithoutQuotient.is (after_two _ _ i (omega arith))
 
 pub returns-in-0-i : goal.returns-in-0-i
 returns-in-0-i c = rw (c.in-WithQuotient.is, c.in-0-i.is) refl
@@ -55,5 +54,4 @@ returns-in-4 c = rw (c.in-WithQuotient.is, c.in-4.is) refl
 pub returns-in_default-i : goal.returns-in_default-i
 returns-in_default-i c =
     let i = c.args.i in
-    let r = c.in_default-i.in_default-i-own.rest in
-    rw c.in-WithQuotient.is (after_five _ _ _ _ _ i (omega (arith, r)))
+    rw c.in-WithQuotient.is (after_five _ _ _ _ _ i (omega arith))

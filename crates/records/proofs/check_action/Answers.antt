@@ -12,7 +12,7 @@ pub returns-then-word-gt62 : goal.returns-then-word-gt62
 unfolding action_number
 returns-then-word-gt62 c =
     let record_of : List ℕ = record_at c.args.words.now c.args.i in
-    let h : 62 < width (record_of) = omega arith in
+    let h : 62 < width record_of = omega arith in
     simp (lt-ltb _ _ h)
 
 pub returns-then-word-gt3 : goal.returns-then-word-gt3

@@ -17,17 +17,17 @@ pub returns-in-0 : goal.returns-in-0
 unfolding measurement_number
 returns-in-0 c =
     let record_of : List ℕ = record_at c.args.words.now c.args.i in
-    let flag_is : (k : ℕ) → c.word-expectation.result ≡ k → flag (record_of) ≡ k = λ k e. sym c.word-expectation.ensures ∙ e in
+    let flag_is : (k : ℕ) → c.word-expectation.result ≡ k → flag record_of ≡ k = λ k e. sym c.word-expectation.ensures ∙ e in
     rw (flag_is 0 c.in-0.is) c.check_action.ensures
 
 pub returns-in-1 : goal.returns-in-1
 unfolding measurement_number
 returns-in-1 c =
     let record_of : List ℕ = record_at c.args.words.now c.args.i in
-    let flag_is : (k : ℕ) → c.word-expectation.result ≡ k → flag (record_of) ≡ k = λ k e. sym c.word-expectation.ensures ∙ e in
+    let flag_is : (k : ℕ) → c.word-expectation.result ≡ k → flag record_of ≡ k = λ k e. sym c.word-expectation.ensures ∙ e in
     rw (flag_is 1 c.in-1.is)
 
 pub returns-in_default : goal.returns-in_default
 returns-in_default c =
     let record_of : List ℕ = record_at c.args.words.now c.args.i in
-    above (record_of) (omega arith)
+    above record_of (omega arith)

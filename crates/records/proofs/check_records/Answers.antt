@@ -11,6 +11,7 @@ use Rattle.records.specs.Record.{record_at}
 use Rattle.records.specs.Pass.{coordinates_after}
 use Rattle.records.proofs.Steps.{pass_start, pass_end, after_promotion, after_other, room, decides, goes_on}
 use Rattle.records.proofs.check_records.Goals as goal
+use Rattle.records.proofs.check_records.Goals.{then-word-eq1, else-word-eq1}
 
 pub loop-i-init : goal.loop-i-init
 loop-i-init c = (search rules, pass_start _ _)
@@ -24,7 +25,7 @@ returns-then-number-ne0 c =
 pub overflow_add-coordinates : goal.overflow_add-coordinates
 overflow_add-coordinates c =
     let record_of : List ℕ = record_at c.args.words.now c.loop-i.i in
-    let h : c.loop-i.coordinates < 512 = room c.loop-i.coordinates (record_of)
+    let h : c.loop-i.coordinates < 512 = room c.loop-i.coordinates record_of
     (sym c.check_record-number.ensures ∙ c.if-number-ne0.false)
     (sym c.word.ensures ∙ c.if-word-eq1.true) in
     omega arith
@@ -32,13 +33,14 @@ overflow_add-coordinates c =
 pub loop-i-preserved : goal.loop-i-preserved
 loop-i-preserved c =
     let record_of : List ℕ = record_at c.args.words.now c.loop-i.i in
-    let counted : c.if-word-eq1.coordinates ≡ coordinates_after c.loop-i.coordinates (record_of) = let read = c.word.ensures in
-    ⊎_elim (λ w. w.coordinates-is ∙ sym (after_promotion c.loop-i.coordinates (record_of) (sym read ∙ w.if-word-eq1.true)))
-    (λ w. w.coordinates-is ∙ sym (after_other c.loop-i.coordinates (record_of) (λ e. w.if-word-eq1.false (read ∙ e))))
-    c.if-word-eq1.branch-raw in (
+    let counted : c.if-word-eq1.coordinates ≡ coordinates_after c.loop-i.coordinates record_of = let read = c.word.ensures in
+    elim c.if-word-eq1.branch [
+      | then-word-eq1 w ↦ w.coordinates-is ∙ sym (after_promotion c.loop-i.coordinates record_of (sym read ∙ w.if-word-eq1.true))
+      | else-word-eq1 w ↦ w.coordinates-is ∙ sym (after_other c.loop-i.coordinates record_of (λ e. w.if-word-eq1.false (read ∙ e)))
+    ] in (
       search rules,
       goes_on c.args.initial_k c.args.words.now c.loop-i.i c.loop-i.coordinates c.check_record-number.result
-          (search rules) c.loop-i.invariant.1 c.check_record-number.ensures c.if-number-ne0.false (counted),
+          (search rules) c.loop-i.invariant.1 c.check_record-number.ensures c.if-number-ne0.false counted,
     )
 
 pub returns : goal.returns

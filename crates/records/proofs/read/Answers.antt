@@ -28,9 +28,9 @@ pub returns-in-0 : goal.returns-in-0
 unfolding instruction_of
 returns-in-0 c =
     let record_of : List ℕ = record_at c.args.words.now c.args.i in
-    let kind_is : (k : ℕ) → c.word-kind.result ≡ k → kind (record_of) ≡ k = λ k e. sym c.word-kind.ensures ∙ e in
+    let kind_is : (k : ℕ) → c.word-kind.result ≡ k → kind record_of ≡ k = λ k e. sym c.word-kind.ensures ∙ e in
     rw (kind_is 0 c.in-0.is)
-    (fields (record_of)
+    (fields record_of
     c.word.ensures
     c.word-in-0.ensures
     c.word-in-0-2.ensures
@@ -43,31 +43,31 @@ pub returns-in-1 : goal.returns-in-1
 unfolding instruction_of
 returns-in-1 c =
     let record_of : List ℕ = record_at c.args.words.now c.args.i in
-    let kind_is : (k : ℕ) → c.word-kind.result ≡ k → kind (record_of) ≡ k = λ k e. sym c.word-kind.ensures ∙ e in
+    let kind_is : (k : ℕ) → c.word-kind.result ≡ k → kind record_of ≡ k = λ k e. sym c.word-kind.ensures ∙ e in
     rw (kind_is 1 c.in-1.is)
 
 pub returns-in-2 : goal.returns-in-2
 unfolding instruction_of
 returns-in-2 c =
     let record_of : List ℕ = record_at c.args.words.now c.args.i in
-    let kind_is : (k : ℕ) → c.word-kind.result ≡ k → kind (record_of) ≡ k = λ k e. sym c.word-kind.ensures ∙ e in
+    let kind_is : (k : ℕ) → c.word-kind.result ≡ k → kind record_of ≡ k = λ k e. sym c.word-kind.ensures ∙ e in
     rw (kind_is 2 c.in-2.is)
 
 pub returns-in-3 : goal.returns-in-3
 unfolding instruction_of
 returns-in-3 c =
     let record_of : List ℕ = record_at c.args.words.now c.args.i in
-    let kind_is : (k : ℕ) → c.word-kind.result ≡ k → kind (record_of) ≡ k = λ k e. sym c.word-kind.ensures ∙ e in
+    let kind_is : (k : ℕ) → c.word-kind.result ≡ k → kind record_of ≡ k = λ k e. sym c.word-kind.ensures ∙ e in
     rw (kind_is 3 c.in-3.is)
 
 pub returns-in-4 : goal.returns-in-4
 unfolding instruction_of
 returns-in-4 c =
     let record_of : List ℕ = record_at c.args.words.now c.args.i in
-    let kind_is : (k : ℕ) → c.word-kind.result ≡ k → kind (record_of) ≡ k = λ k e. sym c.word-kind.ensures ∙ e in
+    let kind_is : (k : ℕ) → c.word-kind.result ≡ k → kind record_of ≡ k = λ k e. sym c.word-kind.ensures ∙ e in
     rw (kind_is 4 c.in-4.is) c.read_measurement.ensures
 
 pub returns-in_default : goal.returns-in_default
 returns-in_default c =
     let record_of : List ℕ = record_at c.args.words.now c.args.i in
-    last (record_of) (omega arith)
+    last record_of (omega arith)

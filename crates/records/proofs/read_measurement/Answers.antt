@@ -24,9 +24,9 @@ pub returns-then-word-eq0 : goal.returns-then-word-eq0
 unfolding measurement_of
 returns-then-word-eq0 c =
     let record_of : List ℕ = record_at c.args.words.now c.args.i in
-    let e : flag (record_of) ≡ 0 = sym c.word.ensures ∙ c.if-word-eq0.true in
+    let e : flag record_of ≡ 0 = sym c.word.ensures ∙ c.if-word-eq0.true in
     rw e
-    (fields (record_of)
+    (fields record_of
     c.word-then-word-eq0.ensures
     c.word-then-word-eq0-2.ensures
     c.word-then-word-eq0-3.ensures
@@ -36,4 +36,4 @@ returns-then-word-eq0 c =
 pub returns-else-word-eq0 : goal.returns-else-word-eq0
 returns-else-word-eq0 c =
     let record_of : List ℕ = record_at c.args.words.now c.args.i in
-    not-zero (record_of) (omega arith)
+    not-zero record_of (omega arith)

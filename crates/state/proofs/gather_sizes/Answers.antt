@@ -28,7 +28,7 @@ overflow_add-grown c =
     let after : Gathering = let turn = c.loop-i in
     let source = get_or c.args.sources.now turn.i 0 in
     record { rise = set turn.rise source turn.grown; sizes = set turn.size source 0; grown = turn.grown + get_or turn.size source 0 } in
-    let goes_on : gather_from (drop (c.loop-i.i + 1) c.args.sources.now) (after)
+    let goes_on : gather_from (drop (c.loop-i.i + 1) c.args.sources.now) after
     ≡ gathering c.args.size.now c.args.sources.now = let turn = c.loop-i in
     let sources = c.args.sources.now in
     sym
@@ -37,8 +37,8 @@ overflow_add-grown c =
     ∙ turn.invariant.2 in
     omega (
       arith,
-      grown_rises (drop (c.loop-i.i + 1) c.args.sources.now) (after),
-      ap (λ (g : Gathering). g.grown) (goes_on),
+      grown_rises (drop (c.loop-i.i + 1) c.args.sources.now) after,
+      ap (λ (g : Gathering). g.grown) goes_on,
       c.requires.few,
     )
 
@@ -50,7 +50,7 @@ loop-i-preserved c =
     let after : Gathering = let turn = c.loop-i in
     let source = get_or c.args.sources.now turn.i 0 in
     record { rise = set turn.rise source turn.grown; sizes = set turn.size source 0; grown = turn.grown + get_or turn.size source 0 } in
-    let goes_on : gather_from (drop (c.loop-i.i + 1) c.args.sources.now) (after)
+    let goes_on : gather_from (drop (c.loop-i.i + 1) c.args.sources.now) after
     ≡ gathering c.args.size.now c.args.sources.now = let turn = c.loop-i in
     let sources = c.args.sources.now in
     sym

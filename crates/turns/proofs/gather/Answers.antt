@@ -23,7 +23,7 @@ write_sources-count-requires c =
     ∙ ap (λ (m : ℕ). reached_mask m c.below_width-2.result) x
     ∙ ap (λ (m : ℕ). reached_mask (a.x % 2 ^ a.width) m) z in
     ap (λ (m : ℕ). sources_in a.size.now (picked m a.component.now)) mask in
-    let same = ap (λ (ws : List ℕ). length ws) (reached) in
+    let same = ap (λ (ws : List ℕ). length ws) reached in
     let fits = c.requires.written in
     record { numbers = c.requires.numbers; room = simp (length-take, length-drop) (omega arith) }
 
@@ -37,7 +37,7 @@ overflow_add-end c =
     ∙ ap (λ (m : ℕ). reached_mask m c.below_width-2.result) x
     ∙ ap (λ (m : ℕ). reached_mask (a.x % 2 ^ a.width) m) z in
     ap (λ (m : ℕ). sources_in a.size.now (picked m a.component.now)) mask in
-    let count : length (Sources) ≡ c.write_sources-count.result = sym (c.write_sources-count.ensures.0 ∙ ap (λ (ws : List ℕ). length ws) (reached)) in
+    let count : length (Sources) ≡ c.write_sources-count.result = sym (c.write_sources-count.ensures.0 ∙ ap (λ (ws : List ℕ). length ws) reached) in
     let long = count in
     let fits = c.requires.written in
     omega (arith, c.well_formed)
@@ -52,15 +52,15 @@ slice_bounds-join_of-end c =
     ∙ ap (λ (m : ℕ). reached_mask m c.below_width-2.result) x
     ∙ ap (λ (m : ℕ). reached_mask (a.x % 2 ^ a.width) m) z in
     ap (λ (m : ℕ). sources_in a.size.now (picked m a.component.now)) mask in
-    let count : length (Sources) ≡ c.write_sources-count.result = sym (c.write_sources-count.ensures.0 ∙ ap (λ (ws : List ℕ). length ws) (reached)) in
+    let count : length (Sources) ≡ c.write_sources-count.result = sym (c.write_sources-count.ensures.0 ∙ ap (λ (ws : List ℕ). length ws) reached) in
     let Whole : List ℕ = put_mid c.args.offset (length c.args.merges.now - c.args.offset) c.args.merges.now c.write_sources-count.new.out in
     let written : Whole ≡ patch c.args.offset (Sources) c.args.merges.now = let a = c.args in
-    part_written a.offset c.write_sources-count.result (Sources) a.merges.now c.write_sources-count.new.out (count)
+    part_written a.offset c.write_sources-count.result (Sources) a.merges.now c.write_sources-count.new.out count
     (c.write_sources-count.ensures.1
-    ∙ ap (λ (ws : List ℕ). ws ++ drop c.write_sources-count.result (take (length a.merges.now - a.offset) (drop a.offset a.merges.now))) (reached)) in
+    ∙ ap (λ (ws : List ℕ). ws ++ drop c.write_sources-count.result (take (length a.merges.now - a.offset) (drop a.offset a.merges.now))) reached) in
     let long = count in
     let fits = c.requires.written in
-    let whole = ap (λ (l : List ℕ). length l) (written) ∙ patch_length c.args.offset (Sources) c.args.merges.now fits in
+    let whole = ap (λ (l : List ℕ). length l) written ∙ patch_length c.args.offset (Sources) c.args.merges.now fits in
     subst (λ (n : ℕ). c.args.offset + c.write_sources-count.result ≤ n) (sym whole) (omega arith)
 
 pub join_of-requires : goal.join_of-requires
@@ -73,19 +73,19 @@ join_of-requires c =
     ∙ ap (λ (m : ℕ). reached_mask m c.below_width-2.result) x
     ∙ ap (λ (m : ℕ). reached_mask (a.x % 2 ^ a.width) m) z in
     ap (λ (m : ℕ). sources_in a.size.now (picked m a.component.now)) mask in
-    let count : length (Sources) ≡ c.write_sources-count.result = sym (c.write_sources-count.ensures.0 ∙ ap (λ (ws : List ℕ). length ws) (reached)) in
+    let count : length (Sources) ≡ c.write_sources-count.result = sym (c.write_sources-count.ensures.0 ∙ ap (λ (ws : List ℕ). length ws) reached) in
     let Whole : List ℕ = put_mid c.args.offset (length c.args.merges.now - c.args.offset) c.args.merges.now c.write_sources-count.new.out in
     let written : Whole ≡ patch c.args.offset (Sources) c.args.merges.now = let a = c.args in
-    part_written a.offset c.write_sources-count.result (Sources) a.merges.now c.write_sources-count.new.out (count)
+    part_written a.offset c.write_sources-count.result (Sources) a.merges.now c.write_sources-count.new.out count
     (c.write_sources-count.ensures.1
-    ∙ ap (λ (ws : List ℕ). ws ++ drop c.write_sources-count.result (take (length a.merges.now - a.offset) (drop a.offset a.merges.now))) (reached)) in
+    ∙ ap (λ (ws : List ℕ). ws ++ drop c.write_sources-count.result (take (length a.merges.now - a.offset) (drop a.offset a.merges.now))) reached) in
     let read : take (c.args.offset + c.write_sources-count.result - c.args.offset) (drop c.args.offset (Whole)) ≡ Sources = let a = c.args in
     let n = a.offset + c.write_sources-count.result - a.offset in
     let fits = c.requires.written in
     let long = count in
-    ap (λ (l : List ℕ). take n (drop a.offset l)) (written)
+    ap (λ (l : List ℕ). take n (drop a.offset l)) written
     ∙ part_of_patch a.offset n (Sources) a.merges.now (omega arith) (omega arith) in
-    subst (λ (ws : List ℕ). Countable c.args.size.now ws) (sym (read)) c.requires.counted
+    subst (λ (ws : List ℕ). Countable c.args.size.now ws) (sym read) c.requires.counted
 
 pub returns : goal.returns
 returns c =
@@ -97,16 +97,16 @@ returns c =
     ∙ ap (λ (m : ℕ). reached_mask m c.below_width-2.result) x
     ∙ ap (λ (m : ℕ). reached_mask (a.x % 2 ^ a.width) m) z in
     ap (λ (m : ℕ). sources_in a.size.now (picked m a.component.now)) mask in
-    let count : length (Sources) ≡ c.write_sources-count.result = sym (c.write_sources-count.ensures.0 ∙ ap (λ (ws : List ℕ). length ws) (reached)) in
+    let count : length (Sources) ≡ c.write_sources-count.result = sym (c.write_sources-count.ensures.0 ∙ ap (λ (ws : List ℕ). length ws) reached) in
     let Whole : List ℕ = put_mid c.args.offset (length c.args.merges.now - c.args.offset) c.args.merges.now c.write_sources-count.new.out in
     let written : Whole ≡ patch c.args.offset (Sources) c.args.merges.now = let a = c.args in
-    part_written a.offset c.write_sources-count.result (Sources) a.merges.now c.write_sources-count.new.out (count)
+    part_written a.offset c.write_sources-count.result (Sources) a.merges.now c.write_sources-count.new.out count
     (c.write_sources-count.ensures.1
-    ∙ ap (λ (ws : List ℕ). ws ++ drop c.write_sources-count.result (take (length a.merges.now - a.offset) (drop a.offset a.merges.now))) (reached)) in
+    ∙ ap (λ (ws : List ℕ). ws ++ drop c.write_sources-count.result (take (length a.merges.now - a.offset) (drop a.offset a.merges.now))) reached) in
     let read : take (c.args.offset + c.write_sources-count.result - c.args.offset) (drop c.args.offset (Whole)) ≡ Sources = let a = c.args in
     let n = a.offset + c.write_sources-count.result - a.offset in
     let fits = c.requires.written in
     let long = count in
-    ap (λ (l : List ℕ). take n (drop a.offset l)) (written)
+    ap (λ (l : List ℕ). take n (drop a.offset l)) written
     ∙ part_of_patch a.offset n (Sources) a.merges.now (omega arith) (omega arith) in
-    (c.join_of.ensures ∙ ap (λ (ws : List ℕ). joining_of c.args.size.now ws) (read), written)
+    (c.join_of.ensures ∙ ap (λ (ws : List ℕ). joining_of c.args.size.now ws) read, written)

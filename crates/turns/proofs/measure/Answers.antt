@@ -27,7 +27,7 @@ bounds-place-at c =
     let passed : (let a = c.args in (measurement_answer a.limit a.component.now a.place.now a.x a.z a.phase a.pivot a.width a.join ≡ measurement a.limit (local_action_of a.place.now a.x a.z a.phase a.width a.join.size) a.phase (get_or a.place.now a.pivot 0)) × (leb a.width a.pivot ≡ false)) = let a = c.args in
     tests_passed (leb a.limit a.join.size) (leb a.width a.pivot) (eqb (get_or a.component.now a.pivot 0) a.join.target) (measurement a.limit (local_action_of a.place.now a.x a.z a.phase a.width a.join.size) a.phase (get_or a.place.now a.pivot 0)) (sym c.pivot_number-number.ensures ∙ c.if-number-ne0.false) in
     let narrow = c.requires.joined_fits.narrow in
-    let below = leb-false c.args.width c.args.pivot (passed).1 in
+    let below = leb-false c.args.width c.args.pivot passed.1 in
     omega arith
 
 pub put_measurement-requires : goal.put_measurement-requires
@@ -49,7 +49,7 @@ returns-in-TooLarge c =
     let passed : (let a = c.args in (measurement_answer a.limit a.component.now a.place.now a.x a.z a.phase a.pivot a.width a.join ≡ measurement a.limit (local_action_of a.place.now a.x a.z a.phase a.width a.join.size) a.phase (get_or a.place.now a.pivot 0)) × (leb a.width a.pivot ≡ false)) = let a = c.args in
     tests_passed (leb a.limit a.join.size) (leb a.width a.pivot) (eqb (get_or a.component.now a.pivot 0) a.join.target) (measurement a.limit (local_action_of a.place.now a.x a.z a.phase a.width a.join.size) a.phase (get_or a.place.now a.pivot 0)) (sym c.pivot_number-number.ensures ∙ c.if-number-ne0.false) in
     let answer_is : (let a = c.args in measurement_answer a.limit a.component.now a.place.now a.x a.z a.phase a.pivot a.width a.join ≡ measurement_of c.with_pivot-made.result) = let a = c.args in
-    (passed).0
+    passed.0
     ∙ sym (c.with_pivot-made.ensures
     ∙ ap (λ (act : ActivePauliAction). measurement a.limit act a.phase c.wide8-local.result) c.local_action-action.ensures
     ∙ ap (λ (p : ℕ). measurement a.limit (local_action_of a.place.now a.x a.z a.phase a.width a.join.size) a.phase p) c.wide8-local.ensures) in
@@ -60,7 +60,7 @@ returns-in-PivotWithoutX c =
     let passed : (let a = c.args in (measurement_answer a.limit a.component.now a.place.now a.x a.z a.phase a.pivot a.width a.join ≡ measurement a.limit (local_action_of a.place.now a.x a.z a.phase a.width a.join.size) a.phase (get_or a.place.now a.pivot 0)) × (leb a.width a.pivot ≡ false)) = let a = c.args in
     tests_passed (leb a.limit a.join.size) (leb a.width a.pivot) (eqb (get_or a.component.now a.pivot 0) a.join.target) (measurement a.limit (local_action_of a.place.now a.x a.z a.phase a.width a.join.size) a.phase (get_or a.place.now a.pivot 0)) (sym c.pivot_number-number.ensures ∙ c.if-number-ne0.false) in
     let answer_is : (let a = c.args in measurement_answer a.limit a.component.now a.place.now a.x a.z a.phase a.pivot a.width a.join ≡ measurement_of c.with_pivot-made.result) = let a = c.args in
-    (passed).0
+    passed.0
     ∙ sym (c.with_pivot-made.ensures
     ∙ ap (λ (act : ActivePauliAction). measurement a.limit act a.phase c.wide8-local.result) c.local_action-action.ensures
     ∙ ap (λ (p : ℕ). measurement a.limit (local_action_of a.place.now a.x a.z a.phase a.width a.join.size) a.phase p) c.wide8-local.ensures) in
@@ -71,7 +71,7 @@ returns-in-PivotWithoutZ c =
     let passed : (let a = c.args in (measurement_answer a.limit a.component.now a.place.now a.x a.z a.phase a.pivot a.width a.join ≡ measurement a.limit (local_action_of a.place.now a.x a.z a.phase a.width a.join.size) a.phase (get_or a.place.now a.pivot 0)) × (leb a.width a.pivot ≡ false)) = let a = c.args in
     tests_passed (leb a.limit a.join.size) (leb a.width a.pivot) (eqb (get_or a.component.now a.pivot 0) a.join.target) (measurement a.limit (local_action_of a.place.now a.x a.z a.phase a.width a.join.size) a.phase (get_or a.place.now a.pivot 0)) (sym c.pivot_number-number.ensures ∙ c.if-number-ne0.false) in
     let answer_is : (let a = c.args in measurement_answer a.limit a.component.now a.place.now a.x a.z a.phase a.pivot a.width a.join ≡ measurement_of c.with_pivot-made.result) = let a = c.args in
-    (passed).0
+    passed.0
     ∙ sym (c.with_pivot-made.ensures
     ∙ ap (λ (act : ActivePauliAction). measurement a.limit act a.phase c.wide8-local.result) c.local_action-action.ensures
     ∙ ap (λ (p : ℕ). measurement a.limit (local_action_of a.place.now a.x a.z a.phase a.width a.join.size) a.phase p) c.wide8-local.ensures) in
@@ -82,7 +82,7 @@ returns-in-ImaginaryPhase c =
     let passed : (let a = c.args in (measurement_answer a.limit a.component.now a.place.now a.x a.z a.phase a.pivot a.width a.join ≡ measurement a.limit (local_action_of a.place.now a.x a.z a.phase a.width a.join.size) a.phase (get_or a.place.now a.pivot 0)) × (leb a.width a.pivot ≡ false)) = let a = c.args in
     tests_passed (leb a.limit a.join.size) (leb a.width a.pivot) (eqb (get_or a.component.now a.pivot 0) a.join.target) (measurement a.limit (local_action_of a.place.now a.x a.z a.phase a.width a.join.size) a.phase (get_or a.place.now a.pivot 0)) (sym c.pivot_number-number.ensures ∙ c.if-number-ne0.false) in
     let answer_is : (let a = c.args in measurement_answer a.limit a.component.now a.place.now a.x a.z a.phase a.pivot a.width a.join ≡ measurement_of c.with_pivot-made.result) = let a = c.args in
-    (passed).0
+    passed.0
     ∙ sym (c.with_pivot-made.ensures
     ∙ ap (λ (act : ActivePauliAction). measurement a.limit act a.phase c.wide8-local.result) c.local_action-action.ensures
     ∙ ap (λ (p : ℕ). measurement a.limit (local_action_of a.place.now a.x a.z a.phase a.width a.join.size) a.phase p) c.wide8-local.ensures) in
@@ -93,7 +93,7 @@ returns-in-Identity c =
     let passed : (let a = c.args in (measurement_answer a.limit a.component.now a.place.now a.x a.z a.phase a.pivot a.width a.join ≡ measurement a.limit (local_action_of a.place.now a.x a.z a.phase a.width a.join.size) a.phase (get_or a.place.now a.pivot 0)) × (leb a.width a.pivot ≡ false)) = let a = c.args in
     tests_passed (leb a.limit a.join.size) (leb a.width a.pivot) (eqb (get_or a.component.now a.pivot 0) a.join.target) (measurement a.limit (local_action_of a.place.now a.x a.z a.phase a.width a.join.size) a.phase (get_or a.place.now a.pivot 0)) (sym c.pivot_number-number.ensures ∙ c.if-number-ne0.false) in
     let answer_is : (let a = c.args in measurement_answer a.limit a.component.now a.place.now a.x a.z a.phase a.pivot a.width a.join ≡ measurement_of c.with_pivot-made.result) = let a = c.args in
-    (passed).0
+    passed.0
     ∙ sym (c.with_pivot-made.ensures
     ∙ ap (λ (act : ActivePauliAction). measurement a.limit act a.phase c.wide8-local.result) c.local_action-action.ensures
     ∙ ap (λ (p : ℕ). measurement a.limit (local_action_of a.place.now a.x a.z a.phase a.width a.join.size) a.phase p) c.wide8-local.ensures) in
@@ -104,7 +104,7 @@ returns-in-Built c =
     let passed : (let a = c.args in (measurement_answer a.limit a.component.now a.place.now a.x a.z a.phase a.pivot a.width a.join ≡ measurement a.limit (local_action_of a.place.now a.x a.z a.phase a.width a.join.size) a.phase (get_or a.place.now a.pivot 0)) × (leb a.width a.pivot ≡ false)) = let a = c.args in
     tests_passed (leb a.limit a.join.size) (leb a.width a.pivot) (eqb (get_or a.component.now a.pivot 0) a.join.target) (measurement a.limit (local_action_of a.place.now a.x a.z a.phase a.width a.join.size) a.phase (get_or a.place.now a.pivot 0)) (sym c.pivot_number-number.ensures ∙ c.if-number-ne0.false) in
     let answer_is : (let a = c.args in measurement_answer a.limit a.component.now a.place.now a.x a.z a.phase a.pivot a.width a.join ≡ measurement_of c.with_pivot-made.result) = let a = c.args in
-    (passed).0
+    passed.0
     ∙ sym (c.with_pivot-made.ensures
     ∙ ap (λ (act : ActivePauliAction). measurement a.limit act a.phase c.wide8-local.result) c.local_action-action.ensures
     ∙ ap (λ (p : ℕ). measurement a.limit (local_action_of a.place.now a.x a.z a.phase a.width a.join.size) a.phase p) c.wide8-local.ensures) in

@@ -21,5 +21,5 @@ returns-in-2 c = sym (ap unit_power c.in-2.is)
 pub returns-in_default : goal.returns-in_default
 unfolding neg of_bits
 returns-in_default c =
-    let rest : c.args.phase % 4 ≡ 3 = omega (arith, c.in_default.in_default-own.rest.1, c.in_default.in_default-own.rest.0.1, c.in_default.in_default-own.rest.0.0.1) in
+    let rest : c.args.phase % 4 ≡ 3 = omega arith in
     sym (ap unit_power rest)

@@ -24,21 +24,21 @@ returns-then-bit_at-eq0 c =
 pub overflow_shl-result : goal.overflow_shl-result
 overflow_shl-result c =
     let is_set : bit_at c.args.value c.args.place ≡ 0 → ⊥ = λ e. c.if-bit_at-eq0.false (c.bit_at.ensures ∙ e) in
-    let in-word : c.args.place < 64 = bit_below 64 c.args.value c.args.place c.ranges.value.fits (is_set) in
+    let in-word : c.args.place < 64 = bit_below 64 c.args.value c.args.place c.ranges.value.fits is_set in
     in-word
 
 pub overflow_sub-result : goal.overflow_sub-result
 overflow_sub-result c =
     let is_set : bit_at c.args.value c.args.place ≡ 0 → ⊥ = λ e. c.if-bit_at-eq0.false (c.bit_at.ensures ∙ e) in
-    let in-word : c.args.place < 64 = bit_below 64 c.args.value c.args.place c.ranges.value.fits (is_set) in
-    subst (λ (n : ℕ). n ≤ c.args.value) (sym (one_shifted c.args.place (in-word)))
-    (bit_power c.args.value c.args.place (is_set))
+    let in-word : c.args.place < 64 = bit_below 64 c.args.value c.args.place c.ranges.value.fits is_set in
+    subst (λ (n : ℕ). n ≤ c.args.value) (sym (one_shifted c.args.place in-word))
+    (bit_power c.args.value c.args.place is_set)
 
 pub returns : goal.returns
 returns c =
     let is_set : bit_at c.args.value c.args.place ≡ 0 → ⊥ = λ e. c.if-bit_at-eq0.false (c.bit_at.ensures ∙ e) in
-    let in-word : c.args.place < 64 = bit_below 64 c.args.value c.args.place c.ranges.value.fits (is_set) in
+    let in-word : c.args.place < 64 = bit_below 64 c.args.value c.args.place c.ranges.value.fits is_set in
     let x = c.args.value in
     let p = c.args.place in
-    ap (λ (n : ℕ). x - n) (one_shifted p (in-word) ∙ sym (one-mul (2 ^ p)))
-    ∙ ap (λ (b : ℕ). x - b * 2 ^ p) (sym (bit_one x p (is_set)))
+    ap (λ (n : ℕ). x - n) (one_shifted p in-word ∙ sym (one-mul (2 ^ p)))
+    ∙ ap (λ (b : ℕ). x - b * 2 ^ p) (sym (bit_one x p is_set))

@@ -9,6 +9,7 @@ use lib.ListN.{length, get_or, take, length-set}
 use Rattle.outputs.specs.Buffers.{Counts, counts_of}
 use Rattle.outputs.proofs.Groups.{counts_empty, counts_full, counts_room, counts_end}
 use Rattle.outputs.proofs.buffers.write_counts.Goals as goal
+use Rattle.outputs.proofs.buffers.write_counts.Goals.{then-s-ne0, else-s-ne0}
 
 pub loop-c-init : goal.loop-c-init
 unfolding counts_of
@@ -124,11 +125,14 @@ loop-c-preserved c =
     let args = c.args in
     let taken = c.loop-c-test.true in (
       omega arith,
-      ⊎_elim (λ w. ap length w.groups-is ∙ simp length-set loop.invariant.1) (λ w. ap length w.groups-is ∙ loop.invariant.1) c.if-s-ne0.branch-raw,
-      ⊎_elim
-          (λ w. sym (counts_full args.size.now args.count loop.c loop.groups loop.start loop.used taken c.if-s-ne0.groups c.if-s-ne0.start c.if-s-ne0.used w.if-s-ne0.true w.groups-is w.start-is w.used-is) ∙ loop.invariant.2)
-          (λ w. sym (counts_empty args.size.now args.count loop.c loop.groups loop.start loop.used taken c.if-s-ne0.groups c.if-s-ne0.start c.if-s-ne0.used w.if-s-ne0.false w.groups-is w.start-is w.used-is) ∙ loop.invariant.2)
-          c.if-s-ne0.branch-raw,
+      elim c.if-s-ne0.branch [
+        | then-s-ne0 w ↦ ap length w.groups-is ∙ simp length-set loop.invariant.1
+        | else-s-ne0 w ↦ ap length w.groups-is ∙ loop.invariant.1
+      ],
+      elim c.if-s-ne0.branch [
+        | then-s-ne0 w ↦ sym (counts_full args.size.now args.count loop.c loop.groups loop.start loop.used taken c.if-s-ne0.groups c.if-s-ne0.start c.if-s-ne0.used w.if-s-ne0.true w.groups-is w.start-is w.used-is) ∙ loop.invariant.2
+        | else-s-ne0 w ↦ sym (counts_empty args.size.now args.count loop.c loop.groups loop.start loop.used taken c.if-s-ne0.groups c.if-s-ne0.start c.if-s-ne0.used w.if-s-ne0.false w.groups-is w.start-is w.used-is) ∙ loop.invariant.2
+      ],
     )
 
 pub returns : goal.returns

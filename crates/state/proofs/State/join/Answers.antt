@@ -10,6 +10,7 @@ use borrow.Author.Count.{below_none}
 use Rattle.state.specs.Steps.{rise_at, target_of}
 use Rattle.state.proofs.Gathers.{length_after, moved, passed_same, passed_moved}
 use Rattle.state.proofs.State.join.Goals as goal
+use Rattle.state.proofs.State.join.Goals.{then-by-ne0, else-by-ne0}
 
 pub overflow_cast-target : goal.overflow_cast-target
 overflow_cast-target c = omega (arith, c.requires.joinable.numbers 0)
@@ -50,10 +51,10 @@ loop-p-preserved c =
     let turn = c.loop-p in (
       omega arith,
       turn.invariant.1,
-      ⊎_elim
-          (λ w. passed_moved turn.invariant.2 (omega arith) (c.requires.joinable.numbers 0) w.if-by-ne0.true c.if-by-ne0.self w.self-is)
-          (λ w. passed_same turn.invariant.2 w.if-by-ne0.false c.if-by-ne0.self w.self-is)
-          c.if-by-ne0.branch-raw,
+      elim c.if-by-ne0.branch [
+        | then-by-ne0 w ↦ passed_moved turn.invariant.2 (omega arith) (c.requires.joinable.numbers 0) w.if-by-ne0.true c.if-by-ne0.self w.self-is
+        | else-by-ne0 w ↦ passed_same turn.invariant.2 w.if-by-ne0.false c.if-by-ne0.self w.self-is
+      ],
     )
 
 pub returns : goal.returns

@@ -37,19 +37,19 @@ pub offset_bounds-self-q : goal.offset_bounds-self-q
 offset_bounds-self-q c =
     let near : (c.loop-p.p ≤ c.skip-q.result) × (c.skip-q.result < 512) = let bounds = skip_near c.args.pivot c.loop-p.p in
     (omega (arith, bounds.0, c.skip-q.ensures), omega (arith, bounds.1, c.skip-q.ensures, c.requires.narrow)) in
-    omega (arith, (near).1)
+    omega (arith, near.1)
 
 pub bounds-self-q : goal.bounds-self-q
 bounds-self-q c =
     let near : (c.loop-p.p ≤ c.skip-q.result) × (c.skip-q.result < 512) = let bounds = skip_near c.args.pivot c.loop-p.p in
     (omega (arith, bounds.0, c.skip-q.ensures), omega (arith, bounds.1, c.skip-q.ensures, c.requires.narrow)) in
-    (near).1
+    near.1
 
 pub bounds-self-q-in-loop-p : goal.bounds-self-q-in-loop-p
 bounds-self-q-in-loop-p c =
     let near : (c.loop-p.p ≤ c.skip-q.result) × (c.skip-q.result < 512) = let bounds = skip_near c.args.pivot c.loop-p.p in
     (omega (arith, bounds.0, c.skip-q.ensures), omega (arith, bounds.1, c.skip-q.ensures, c.requires.narrow)) in
-    (near).1
+    near.1
 
 pub loop-p-preserved : goal.loop-p-preserved
 loop-p-preserved c =
@@ -60,8 +60,8 @@ loop-p-preserved c =
     let pivot = c.args.pivot in
     let q = c.skip-q.result in
     let s = turn.self in
-    let component = turn.invariant.8 q (near).0 ∙ ap (λ (k : ℕ). get_or first.component k 0) c.skip-q.ensures in
-    let place = turn.invariant.9 q (near).0 ∙ ap (λ (k : ℕ). get_or first.place k 0) c.skip-q.ensures in
+    let component = turn.invariant.8 q near.0 ∙ ap (λ (k : ℕ). get_or first.component k 0) c.skip-q.ensures in
+    let place = turn.invariant.9 q near.0 ∙ ap (λ (k : ℕ). get_or first.place k 0) c.skip-q.ensures in
     let target = get_or first.component pivot 0 in
     let local = get_or first.place pivot 0 in (
       omega arith,
