@@ -22,7 +22,7 @@ fn plan_read(
     measurements: &mut [u64],
     groups: &mut [u64],
 ) -> Planned
-    ensures { ReadAnswers head dense_peak records.now (record { steps = steps.entry.now; merges = merges.old; sizes = sizes.old; rotations = rotations.old; promotions = promotions.old; measurements = measurements.old; groups = groups.old }) (record { steps = steps.exit.now; merges = merges.new; sizes = sizes.new; rotations = rotations.new; promotions = promotions.new; measurements = measurements.new; groups = groups.new }) result }
+    ensures { ReadAnswers head dense_peak records.now (record { steps = steps.old; merges = merges.old; sizes = sizes.old; rotations = rotations.old; promotions = promotions.old; measurements = measurements.old; groups = groups.old }) (record { steps = steps.new; merges = merges.new; sizes = sizes.new; rotations = rotations.new; promotions = promotions.new; measurements = measurements.new; groups = groups.new }) result }
 {
     let initial_k = head.initial_k;
     let ceiling = head.ceiling;
@@ -92,7 +92,7 @@ pub fn build_active_component_plan(
     measurements: &mut [u64],
     groups: &mut [u64],
 ) -> Planned
-    ensures { Answers head records.now (record { steps = steps.entry.now; merges = merges.old; sizes = sizes.old; rotations = rotations.old; promotions = promotions.old; measurements = measurements.old; groups = groups.old }) (record { steps = steps.exit.now; merges = merges.new; sizes = sizes.new; rotations = rotations.new; promotions = promotions.new; measurements = measurements.new; groups = groups.new }) result }
+    ensures { Answers head records.now (record { steps = steps.old; merges = merges.old; sizes = sizes.old; rotations = rotations.old; promotions = promotions.old; measurements = measurements.old; groups = groups.old }) (record { steps = steps.new; merges = merges.new; sizes = sizes.new; rotations = rotations.new; promotions = promotions.new; measurements = measurements.new; groups = groups.new }) result }
 {
     let initial_k = head.initial_k;
     let max_k = head.max_k;

@@ -85,7 +85,7 @@ pub fn write_file<'a>(
     file: &mut [u8],
 )
     requires { 8 * (length steps.now + length merges.now + length sizes.now + length rotations.now + length promotions.now + length measurements.now + 24) ≤ length file.old }
-    ensures { file.new ≡ padded (length file.old) (bytes_of (record { steps = steps.entry.now; merges = merges.now; sizes = sizes.now; rotations = rotations.now; promotions = promotions.now; measurements = measurements.now; scalars = scalars_in plan })) }
+    ensures { file.new ≡ padded (length file.old) (bytes_of (record { steps = steps.now; merges = merges.now; sizes = sizes.now; rotations = rotations.now; promotions = promotions.now; measurements = measurements.now; scalars = scalars_in plan })) }
 {
     let used = WordCounts {
         steps: steps.len(),

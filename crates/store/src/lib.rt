@@ -32,7 +32,7 @@ pub fn store(
     groups: &mut [u64],
     file: &mut [u8],
 ) -> Stored
-    ensures { Stores head records.now (record { steps = steps.entry.now; merges = merges.old; sizes = sizes.old; rotations = rotations.old; promotions = promotions.old; measurements = measurements.old; groups = groups.old }) (record { steps = steps.exit.now; merges = merges.new; sizes = sizes.new; rotations = rotations.new; promotions = promotions.new; measurements = measurements.new; groups = groups.new }) file.old file.new result }
+    ensures { Stores head records.now (record { steps = steps.old; merges = merges.old; sizes = sizes.old; rotations = rotations.old; promotions = promotions.old; measurements = measurements.old; groups = groups.old }) (record { steps = steps.new; merges = merges.new; sizes = sizes.new; rotations = rotations.new; promotions = promotions.new; measurements = measurements.new; groups = groups.new }) file.old file.new result }
 {
     let planned = build_active_component_plan(
         head,

@@ -190,7 +190,7 @@ pub fn load(
     promotions: &mut [u64],
     measurements: &mut [u64],
 ) -> Loaded
-    ensures { Loads file.now (record { steps = steps.entry.now; merges = merges.old; sizes = sizes.old; rotations = rotations.old; promotions = promotions.old; measurements = measurements.old }) (record { steps = steps.exit.now; merges = merges.new; sizes = sizes.new; rotations = rotations.new; promotions = promotions.new; measurements = measurements.new }) result }
+    ensures { Loads file.now (record { steps = steps.old; merges = merges.old; sizes = sizes.old; rotations = rotations.old; promotions = promotions.old; measurements = measurements.old }) (record { steps = steps.new; merges = merges.new; sizes = sizes.new; rotations = rotations.new; promotions = promotions.new; measurements = measurements.new }) result }
 {
     let lent = WordCounts {
         steps: steps.len(),

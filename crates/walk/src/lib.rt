@@ -42,7 +42,7 @@ pub fn walk(
     groups: &mut [u64],
 ) -> Walked
     requires { Walkable initial_k records.now (record { steps = steps.now; merges = merges.old; sizes = sizes.old; rotations = rotations.old; promotions = promotions.old; measurements = measurements.old; groups = groups.old }) }
-    ensures { WalkEnds (walk_from limit 0 (start initial_k) (instructions_of records.now)) result (record { steps = steps.exit.now; merges = merges.new; sizes = sizes.new; rotations = rotations.new; promotions = promotions.new; measurements = measurements.new; groups = groups.new }) }
+    ensures { WalkEnds (walk_from limit 0 (start initial_k) (instructions_of records.now)) result (record { steps = steps.new; merges = merges.new; sizes = sizes.new; rotations = rotations.new; promotions = promotions.new; measurements = measurements.new; groups = groups.new }) }
 {
     let mut order = first_order(initial_k);
     let mut state = State::start(initial_k);

@@ -1,10 +1,13 @@
--- After i turns the first i words of the result are those of the list, and it is as long as it was.
-use Rattle.std.proofs.Common.{◌-◌, length, get_or, ℕ}
-use Rattle.definition.proofs.Filled.{Filled}
+use Rattle.std.proofs.Common.{rules}
+use mathlib.Core.Path.{sym, subst}
+use Prim.Native.Nat.{ℕ, suc, ◌-◌, ◌≤◌}
+use native.Mathlib.Omega.{arith}
+use lib.ListN.{length, get_or, set}
+use Rattle.definition.proofs.Filled.{Filled, filled_none, filled_next, filled_all}
 use Rattle.midvokt.proofs.stored.lay_out.Given as goal
 
 abbrev pub invariant-loop-i : goal.invariant-loop-i
-invariant-loop-i l = Filled (λ (j : ℕ). get_or l.words j 0) (length l.initial.res) l.i l.res
+invariant-loop-i l = (l.i ≤ length l.initial.res) × Filled (λ (j : ℕ). get_or l.words j 0) (length l.initial.res) l.i l.res
 
 abbrev pub decreases-loop-i : goal.decreases-loop-i
 decreases-loop-i l = length l.initial.res - l.i
