@@ -1,6 +1,6 @@
 -- The invariant of the walk's loop as one record, and what each place of the loop's body asks, by the lemmas on one turn.
 use mathlib.Core.Path.{◌≡◌, refl, sym, ap, ap₂, ◌∙◌, subst}
-use mathlib.Core.Logic.{◌⊎◌, inl, inr, ⊎_elim}
+use mathlib.Core.Logic.{◌⊎◌, ⊎_elim}
 use mathlib.Core.Bool.{Bool, true, false, cond, not}
 use mathlib.Core.Option.{Option, some, none}
 use mathlib.Core.List.{List, [], ◌∷◌, ◌++◌}
@@ -17,8 +17,6 @@ use Rattle.kernels.specs.declared.active.PrecomputedActivePauliMeasurementKernel
 use Rattle.records.specs.Record.{instructions_of}
 use Rattle.records.specs.declared.Instruction.{Instruction}
 use Rattle.records.specs.declared.Instruction.TheVariants.{Rotation, Promotion, RecordMeasurement, RecordDetector, Measurement, Expectation, DormantBranch}
-use denote.Enum.Declared.{tag_of}
-use Rattle.records.specs.contracts.Instruction.{the_type}
 use Rattle.definition.specs.Lists.{concat}
 use Rattle.definition.proofs.Counting.{same_or_not}
 use Rattle.definition.specs.Walk.{Walk, join_of, no_step, ignored_step, promotion_step, rotation_step, measurement_step, step, start, walk_from}

@@ -1,6 +1,5 @@
 -- `walk` meets its contract. The loop's invariant is that the active order, the state, the sums and the buffers are those of the definition's walk after as many records (`Looping`);
 -- each place of the loop's body asks what a lemma on one turn gives.
-use Rattle.std.proofs.Common.{rules}
 use Prim.Native.Nat.{◌-◌}
 use mathlib.Core.Path.{◌≡◌, refl, sym, ap, ◌∙◌, subst}
 use mathlib.Core.Logic.{inl, inr, ⊎_elim}
@@ -12,7 +11,7 @@ use Rattle.records.specs.declared.Instruction.TheVariants.{DormantBranch}
 use Rattle.records.proofs.Laws.{instruction_at}
 use Rattle.state.specs.Steps.{Joined}
 use Rattle.turns.specs.Turns.{number_before}
-use Rattle.walk.proofs.Looping.{Looping, Met, sources, records_few, join_count, opening, opening_stops, joins, part_fits, part_is, ignored_goes, rotate_asks, rotate_room, rotate_stops, rotate_goes, measure_asks, measure_room, measure_stops, remove_asks, gap_fits, measure_goes, promote_asks, promoted_asks, promote_goes, does_nothing, plain_goes, step_room, quantum_room, ones_fit, begins, count_small, groups_fit, places_fit, finishes}
+use Rattle.walk.proofs.Looping.{Met, sources, records_few, join_count, opening, opening_stops, joins, part_fits, part_is, ignored_goes, rotate_asks, rotate_room, rotate_stops, rotate_goes, measure_asks, measure_room, measure_stops, remove_asks, gap_fits, measure_goes, promote_asks, promoted_asks, promote_goes, does_nothing, plain_goes, step_room, quantum_room, ones_fit, begins, count_small, groups_fit, places_fit, finishes}
 use Rattle.walk.proofs.walk.Goals as goal
 
 pub fill_ones-requires : goal.fill_ones-requires
@@ -90,8 +89,8 @@ offset_bounds-merges-offset c =
     let good = c.well_formed.1.1.1.1.0.1 in
     omega (arith, good)
 
-pub slice_bounds-join-end : goal.slice_bounds-join-end
-slice_bounds-join-end c =
+pub slice_bounds-join_state-end : goal.slice_bounds-join_state-end
+slice_bounds-join_state-end c =
     let turn-now : get_or (instructions_of c.args.records.now) c.loop-i.i DormantBranch ≡ c.read-instruction.result = let words = c.args.records.now in
     instruction_at words c.loop-i.i DormantBranch (omega (arith, c.loop-i-test.true, c.loop-i.invariant.count)) ∙ sym c.read-instruction.ensures in
     let counted : c.open-act.result.join.count ≡ length (sources c.loop-i.invariant c.loop-i-test.true c.read-instruction.result (turn-now)) = ap (λ j. j.count) c.open-act.ensures.1 ∙ (join_count c.loop-i.state.size (sources c.loop-i.invariant c.loop-i-test.true c.read-instruction.result (turn-now))) in
@@ -113,8 +112,8 @@ slice_bounds-join-end c =
     let good = c.well_formed.1.1.1.1.0.1 in
     fits
 
-pub join-state-requires : goal.join-state-requires
-join-state-requires c =
+pub join_state-requires : goal.join_state-requires
+join_state-requires c =
     let turn-now : get_or (instructions_of c.args.records.now) c.loop-i.i DormantBranch ≡ c.read-instruction.result = let words = c.args.records.now in
     instruction_at words c.loop-i.i DormantBranch (omega (arith, c.loop-i-test.true, c.loop-i.invariant.count)) ∙ sym c.read-instruction.ensures in
     let counted : c.open-act.result.join.count ≡ length (sources c.loop-i.invariant c.loop-i-test.true c.read-instruction.result (turn-now)) = ap (λ j. j.count) c.open-act.ensures.1 ∙ (join_count c.loop-i.state.size (sources c.loop-i.invariant c.loop-i-test.true c.read-instruction.result (turn-now))) in
@@ -176,7 +175,7 @@ loop-i-preserved-then-count-eq0 c =
     (λ w. inl (
       (let h = w.if-count-gt1.true in omega arith),
       subst (λ v. Joined s (sources c.loop-i.invariant c.loop-i-test.true c.read-instruction.result (turn-now)) v) (sym w.state-is)
-          (subst (λ l. Joined s l w.join-state.result) (placed).1 w.join-state.ensures),
+          (subst (λ l. Joined s l w.join_state.new.state) (placed).1 w.join_state.ensures),
     ))
     (λ w. inr (w.state-is, (let h = w.if-count-gt1.false in omega arith)))
     c.if-count-gt1.branch-raw in
@@ -209,7 +208,7 @@ rotate-after-requires c =
     (λ w. inl (
       (let h = w.if-count-gt1.true in omega arith),
       subst (λ v. Joined s (sources c.loop-i.invariant c.loop-i-test.true c.read-instruction.result (turn-now)) v) (sym w.state-is)
-          (subst (λ l. Joined s l w.join-state.result) (placed).1 w.join-state.ensures),
+          (subst (λ l. Joined s l w.join_state.new.state) (placed).1 w.join_state.ensures),
     ))
     (λ w. inr (w.state-is, (let h = w.if-count-gt1.false in omega arith)))
     c.if-count-gt1.branch-raw in
@@ -242,7 +241,7 @@ returns-then-number-ne0-2 c =
     (λ w. inl (
       (let h = w.if-count-gt1.true in omega arith),
       subst (λ v. Joined s (sources c.loop-i.invariant c.loop-i-test.true c.read-instruction.result (turn-now)) v) (sym w.state-is)
-          (subst (λ l. Joined s l w.join-state.result) (placed).1 w.join-state.ensures),
+          (subst (λ l. Joined s l w.join_state.new.state) (placed).1 w.join_state.ensures),
     ))
     (λ w. inr (w.state-is, (let h = w.if-count-gt1.false in omega arith)))
     c.if-count-gt1.branch-raw in
@@ -280,7 +279,7 @@ loop-i-preserved-else-count-eq0 c =
     (λ w. inl (
       (let h = w.if-count-gt1.true in omega arith),
       subst (λ v. Joined s (sources c.loop-i.invariant c.loop-i-test.true c.read-instruction.result (turn-now)) v) (sym w.state-is)
-          (subst (λ l. Joined s l w.join-state.result) (placed).1 w.join-state.ensures),
+          (subst (λ l. Joined s l w.join_state.new.state) (placed).1 w.join_state.ensures),
     ))
     (λ w. inr (w.state-is, (let h = w.if-count-gt1.false in omega arith)))
     c.if-count-gt1.branch-raw in
@@ -313,7 +312,7 @@ promote-tally-requires c =
     (λ w. inl (
       (let h = w.if-count-gt1.true in omega arith),
       subst (λ v. Joined s (sources c.loop-i.invariant c.loop-i-test.true c.read-instruction.result (turn-now)) v) (sym w.state-is)
-          (subst (λ l. Joined s l w.join-state.result) (placed).1 w.join-state.ensures),
+          (subst (λ l. Joined s l w.join_state.new.state) (placed).1 w.join_state.ensures),
     ))
     (λ w. inr (w.state-is, (let h = w.if-count-gt1.false in omega arith)))
     c.if-count-gt1.branch-raw in
@@ -345,7 +344,7 @@ append-requires c =
     (λ w. inl (
       (let h = w.if-count-gt1.true in omega arith),
       subst (λ v. Joined s (sources c.loop-i.invariant c.loop-i-test.true c.read-instruction.result (turn-now)) v) (sym w.state-is)
-          (subst (λ l. Joined s l w.join-state.result) (placed).1 w.join-state.ensures),
+          (subst (λ l. Joined s l w.join_state.new.state) (placed).1 w.join_state.ensures),
     ))
     (λ w. inr (w.state-is, (let h = w.if-count-gt1.false in omega arith)))
     c.if-count-gt1.branch-raw in
@@ -356,8 +355,8 @@ append-requires c =
     let told = c.in-Promotion.is in
     promoted_asks inv more x now told c.if-count-gt1.state (met)
 
-pub promote-state-requires : goal.promote-state-requires
-promote-state-requires c =
+pub promote_state-requires : goal.promote_state-requires
+promote_state-requires c =
     let turn-now : get_or (instructions_of c.args.records.now) c.loop-i.i DormantBranch ≡ c.read-instruction.result = let words = c.args.records.now in
     instruction_at words c.loop-i.i DormantBranch (omega (arith, c.loop-i-test.true, c.loop-i.invariant.count)) ∙ sym c.read-instruction.ensures in
     let counted : c.open-act.result.join.count ≡ length (sources c.loop-i.invariant c.loop-i-test.true c.read-instruction.result (turn-now)) = ap (λ j. j.count) c.open-act.ensures.1 ∙ (join_count c.loop-i.state.size (sources c.loop-i.invariant c.loop-i-test.true c.read-instruction.result (turn-now))) in
@@ -375,7 +374,7 @@ promote-state-requires c =
     (λ w. inl (
       (let h = w.if-count-gt1.true in omega arith),
       subst (λ v. Joined s (sources c.loop-i.invariant c.loop-i-test.true c.read-instruction.result (turn-now)) v) (sym w.state-is)
-          (subst (λ l. Joined s l w.join-state.result) (placed).1 w.join-state.ensures),
+          (subst (λ l. Joined s l w.join_state.new.state) (placed).1 w.join_state.ensures),
     ))
     (λ w. inr (w.state-is, (let h = w.if-count-gt1.false in omega arith)))
     c.if-count-gt1.branch-raw in
@@ -412,7 +411,7 @@ loop-i-preserved-in-Promotion c =
     (λ w. inl (
       (let h = w.if-count-gt1.true in omega arith),
       subst (λ v. Joined s (sources c.loop-i.invariant c.loop-i-test.true c.read-instruction.result (turn-now)) v) (sym w.state-is)
-          (subst (λ l. Joined s l w.join-state.result) (placed).1 w.join-state.ensures),
+          (subst (λ l. Joined s l w.join_state.new.state) (placed).1 w.join_state.ensures),
     ))
     (λ w. inr (w.state-is, (let h = w.if-count-gt1.false in omega arith)))
     c.if-count-gt1.branch-raw in
@@ -423,7 +422,7 @@ loop-i-preserved-in-Promotion c =
     let now = turn-now in
     let through = let_through in
     let told = c.in-Promotion.is in
-    promote_goes inv more x now told c.if-count-gt1.state (met) c.promote-tally.result _ c.promote-state.result c.append.new.order c.promote-tally.ensures c.promote-state.ensures c.append.ensures c.open-act.ensures.2 refl refl (record { steps = c.promote-tally.auto.steps ∙ inv.long.steps; merges = c.open-act.auto.merges ∙ inv.long.merges; sizes = c.promote-tally.auto.sizes ∙ inv.long.sizes; rotations = inv.long.rotations; promotions = c.promote-tally.auto.promotions ∙ inv.long.promotions; measurements = inv.long.measurements; groups = inv.long.groups })
+    promote_goes inv more x now told c.if-count-gt1.state (met) c.promote-tally.result _ c.promote_state.new.state c.append.new.order c.promote-tally.ensures c.promote_state.ensures c.append.ensures c.open-act.ensures.2 refl refl (record { steps = c.promote-tally.auto.steps ∙ inv.long.steps; merges = c.open-act.auto.merges ∙ inv.long.merges; sizes = c.promote-tally.auto.sizes ∙ inv.long.sizes; rotations = inv.long.rotations; promotions = c.promote-tally.auto.promotions ∙ inv.long.promotions; measurements = inv.long.measurements; groups = inv.long.groups })
 
 pub measure-after-requires : goal.measure-after-requires
 measure-after-requires c =
@@ -444,7 +443,7 @@ measure-after-requires c =
     (λ w. inl (
       (let h = w.if-count-gt1.true in omega arith),
       subst (λ v. Joined s (sources c.loop-i.invariant c.loop-i-test.true c.read-instruction.result (turn-now)) v) (sym w.state-is)
-          (subst (λ l. Joined s l w.join-state.result) (placed).1 w.join-state.ensures),
+          (subst (λ l. Joined s l w.join_state.new.state) (placed).1 w.join_state.ensures),
     ))
     (λ w. inr (w.state-is, (let h = w.if-count-gt1.false in omega arith)))
     c.if-count-gt1.branch-raw in
@@ -476,7 +475,7 @@ returns-then-number-ne0-3 c =
     (λ w. inl (
       (let h = w.if-count-gt1.true in omega arith),
       subst (λ v. Joined s (sources c.loop-i.invariant c.loop-i-test.true c.read-instruction.result (turn-now)) v) (sym w.state-is)
-          (subst (λ l. Joined s l w.join-state.result) (placed).1 w.join-state.ensures),
+          (subst (λ l. Joined s l w.join_state.new.state) (placed).1 w.join_state.ensures),
     ))
     (λ w. inr (w.state-is, (let h = w.if-count-gt1.false in omega arith)))
     c.if-count-gt1.branch-raw in
@@ -489,8 +488,8 @@ returns-then-number-ne0-3 c =
     let told = c.in-Measurement.is in
     measure_stops inv more x now _ _ _ _ _ told through c.if-count-gt1.state (met) c.open-act.result.join c.open-act.ensures.1 c.measure-after.result.number _ _ c.measure-after.ensures c.if-number-ne0-3.true
 
-pub remove-state-requires : goal.remove-state-requires
-remove-state-requires c =
+pub remove_state-requires : goal.remove_state-requires
+remove_state-requires c =
     let turn-now : get_or (instructions_of c.args.records.now) c.loop-i.i DormantBranch ≡ c.read-instruction.result = let words = c.args.records.now in
     instruction_at words c.loop-i.i DormantBranch (omega (arith, c.loop-i-test.true, c.loop-i.invariant.count)) ∙ sym c.read-instruction.ensures in
     let counted : c.open-act.result.join.count ≡ length (sources c.loop-i.invariant c.loop-i-test.true c.read-instruction.result (turn-now)) = ap (λ j. j.count) c.open-act.ensures.1 ∙ (join_count c.loop-i.state.size (sources c.loop-i.invariant c.loop-i-test.true c.read-instruction.result (turn-now))) in
@@ -508,7 +507,7 @@ remove-state-requires c =
     (λ w. inl (
       (let h = w.if-count-gt1.true in omega arith),
       subst (λ v. Joined s (sources c.loop-i.invariant c.loop-i-test.true c.read-instruction.result (turn-now)) v) (sym w.state-is)
-          (subst (λ l. Joined s l w.join-state.result) (placed).1 w.join-state.ensures),
+          (subst (λ l. Joined s l w.join_state.new.state) (placed).1 w.join_state.ensures),
     ))
     (λ w. inr (w.state-is, (let h = w.if-count-gt1.false in omega arith)))
     c.if-count-gt1.branch-raw in
@@ -540,7 +539,7 @@ close_gap-requires c =
     (λ w. inl (
       (let h = w.if-count-gt1.true in omega arith),
       subst (λ v. Joined s (sources c.loop-i.invariant c.loop-i-test.true c.read-instruction.result (turn-now)) v) (sym w.state-is)
-          (subst (λ l. Joined s l w.join-state.result) (placed).1 w.join-state.ensures),
+          (subst (λ l. Joined s l w.join_state.new.state) (placed).1 w.join_state.ensures),
     ))
     (λ w. inr (w.state-is, (let h = w.if-count-gt1.false in omega arith)))
     c.if-count-gt1.branch-raw in
@@ -551,7 +550,7 @@ close_gap-requires c =
     let now = turn-now in
     let through = let_through in
     let told = c.in-Measurement.is in
-    gap_fits inv more x now _ _ _ _ _ told through c.if-count-gt1.state (met) c.open-act.result.join c.open-act.ensures.1 c.remove-state.result c.remove-state.ensures
+    gap_fits inv more x now _ _ _ _ _ told through c.if-count-gt1.state (met) c.open-act.result.join c.open-act.ensures.1 c.remove_state.new.state c.remove_state.ensures
     (remove_asks inv more x now _ _ _ _ _ told through c.if-count-gt1.state (met) c.open-act.result.join c.open-act.ensures.1 c.measure-after.result.number _ c.measure-after.ensures c.if-number-ne0-3.false)
 
 pub loop-i-smaller-in-Measurement : goal.loop-i-smaller-in-Measurement
@@ -578,7 +577,7 @@ loop-i-preserved-in-Measurement c =
     (λ w. inl (
       (let h = w.if-count-gt1.true in omega arith),
       subst (λ v. Joined s (sources c.loop-i.invariant c.loop-i-test.true c.read-instruction.result (turn-now)) v) (sym w.state-is)
-          (subst (λ l. Joined s l w.join-state.result) (placed).1 w.join-state.ensures),
+          (subst (λ l. Joined s l w.join_state.new.state) (placed).1 w.join_state.ensures),
     ))
     (λ w. inr (w.state-is, (let h = w.if-count-gt1.false in omega arith)))
     c.if-count-gt1.branch-raw in
@@ -589,7 +588,7 @@ loop-i-preserved-in-Measurement c =
     let now = turn-now in
     let through = let_through in
     let told = c.in-Measurement.is in
-    measure_goes inv more x now _ _ _ _ _ told through c.if-count-gt1.state (met) c.open-act.result.join c.open-act.ensures.1 c.measure-after.result.number c.measure-after.result.tally _ c.remove-state.result c.close_gap.new.order c.measure-after.ensures c.if-number-ne0-3.false c.remove-state.ensures c.close_gap.ensures c.open-act.ensures.2 refl refl (record { steps = c.measure-after.auto.steps ∙ inv.long.steps; merges = c.open-act.auto.merges ∙ inv.long.merges; sizes = c.measure-after.auto.sizes ∙ inv.long.sizes; rotations = inv.long.rotations; promotions = inv.long.promotions; measurements = c.measure-after.auto.measurements ∙ inv.long.measurements; groups = inv.long.groups })
+    measure_goes inv more x now _ _ _ _ _ told through c.if-count-gt1.state (met) c.open-act.result.join c.open-act.ensures.1 c.measure-after.result.number c.measure-after.result.tally _ c.remove_state.new.state c.close_gap.new.order c.measure-after.ensures c.if-number-ne0-3.false c.remove_state.ensures c.close_gap.ensures c.open-act.ensures.2 refl refl (record { steps = c.measure-after.auto.steps ∙ inv.long.steps; merges = c.open-act.auto.merges ∙ inv.long.merges; sizes = c.measure-after.auto.sizes ∙ inv.long.sizes; rotations = inv.long.rotations; promotions = inv.long.promotions; measurements = c.measure-after.auto.measurements ∙ inv.long.measurements; groups = inv.long.groups })
 
 pub put_step-requires-in_default : goal.put_step-requires-in_default
 put_step-requires-in_default c =
@@ -625,7 +624,7 @@ loop-i-preserved c =
     (λ w. inl (
       (let h = w.if-count-gt1.true in omega arith),
       subst (λ v. Joined s (sources c.loop-i.invariant c.loop-i-test.true c.read-instruction.result (turn-now)) v) (sym w.state-is)
-          (subst (λ l. Joined s l w.join-state.result) (placed).1 w.join-state.ensures),
+          (subst (λ l. Joined s l w.join_state.new.state) (placed).1 w.join_state.ensures),
     ))
     (λ w. inr (w.state-is, (let h = w.if-count-gt1.false in omega arith)))
     c.if-count-gt1.branch-raw in
