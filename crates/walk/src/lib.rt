@@ -100,7 +100,8 @@ pub fn walk(
         }
         let join = act.join;
         let count = join.count;
-        if 1 < count {
+        let is_joined = 1 < count;
+        if is_joined {
             let end = offset + count;
             join_state(&mut state, &merges[offset..end]);
         }
