@@ -1,6 +1,5 @@
 -- `build_active_component_plan` meets its contract: the dimension decides refusal 1, the head decides whether the records are read, and then the answer is that of
 -- `plan_read`, with zeros written wherever there is no plan of a walk.
-use Rattle.std.proofs.Common.{rules}
 use mathlib.Core.Path.{◌≡◌, refl, sym, ap, ◌∙◌}
 use mathlib.Core.Bool.{true}
 use mathlib.Core.Logic.{⊎_elim}

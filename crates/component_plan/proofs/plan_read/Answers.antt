@@ -1,6 +1,5 @@
 -- `plan_read` meets its contract: a number of `lent_number` or of the record pass is the definition's first refusal, the walk stops where the definition's stops,
 -- and what a finished walk has written is the plan, with zeros behind it.
-use Rattle.std.proofs.Common.{rules}
 use native.Mathlib.Omega.{arith}
 use mathlib.Core.Path.{◌≡◌, sym, ap, ◌∙◌, subst}
 use mathlib.Core.Bool.{Bool}

@@ -1,11 +1,9 @@
 -- `file_words::clear_bytes` meets its contract. The loop's invariant: the first i bytes are those before `from` and then zeros, and i is at most the
 -- larger of `from` and the length, so after the loop they are all the bytes. The measure is the number of bytes left.
 use Rattle.std.proofs.Common.{rules}
-use mathlib.Core.Path.{◌≡◌, refl}
-use mathlib.Core.List.{◌++◌}
-use Prim.Native.Nat.{◌-◌, ◌≤◌, max}
+use mathlib.Core.Path.{refl}
 use native.Mathlib.Omega.{arith}
-use lib.ListN.{length, take, replicate, length-set}
+use lib.ListN.{length-set}
 use Rattle.outputs.proofs.Fill.{clear_none, clear_more, clear_all}
 use Rattle.file_words.proofs.clear_bytes.Goals as goal
 

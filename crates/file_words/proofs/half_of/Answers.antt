@@ -1,5 +1,4 @@
 -- `file_words::half_of` meets its contract: the four bytes are read by their places.
-use Rattle.std.proofs.Common.{rules}
 use mathlib.Core.Path.{ap}
 use native.Mathlib.Omega.{arith}
 use Rattle.file_words.specs.Words.{number_of}

@@ -1,9 +1,9 @@
 -- `file_words::put_words` meets its contract. The loop's invariant: the bytes of the first i words stand in the file from the place on, and all else is as it
 -- was. The measure is the number of words left.
 use Rattle.std.proofs.Common.{rules}
-use mathlib.Core.Path.{◌≡◌, refl, ap, ◌∙◌}
+use mathlib.Core.Path.{refl, ap, ◌∙◌}
 use mathlib.Core.List.{List}
-use Prim.Native.Nat.{ℕ, ◌-◌, ◌*◌, ◌+◌, ◌≤◌}
+use Prim.Native.Nat.{ℕ, ◌*◌, ◌+◌}
 use native.Mathlib.Omega.{arith}
 use lib.ListN.{length, get_or, take}
 use lib.Seq.{take_all, length-take-le}

@@ -1,5 +1,4 @@
 -- `file_words::word_at` meets its contract: a word is its two halves, the upper one 2 ^ 32 times as much.
-use Rattle.std.proofs.Common.{rules}
 use mathlib.Core.Path.{ap, ap₂, ◌∙◌}
 use Prim.Native.Nat.{ℕ, ◌+◌, ◌-◌, ◌*◌}
 use native.Mathlib.Omega.{arith}

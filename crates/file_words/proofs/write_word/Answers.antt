@@ -1,5 +1,4 @@
 -- `file_words::write_word` meets its contract: the eight bytes are stored one after the other, each the rest of a division of what is left of the word.
-use Rattle.std.proofs.Common.{rules}
 use native.Mathlib.Omega.{arith}
 use lib.ListN.{length-set}
 use lib.Seq.{sets-eq}

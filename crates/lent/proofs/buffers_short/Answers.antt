@@ -1,5 +1,5 @@
 -- `buffers_short` meets its contract: each return has shown by the tests before it which of the seven comparisons of `buffers_refused` hold.
-use Rattle.std.proofs.Common.{rules, le-ltb, lt-ltb}
+use Rattle.std.proofs.Common.{le-ltb, lt-ltb}
 use Rattle.lent.proofs.buffers_short.Goals as goal
 
 pub returns-then-steps-n : goal.returns-then-steps-n

@@ -1,6 +1,6 @@
 -- `choose` meets its contract: each return has shown by the tests before it which of the four conditions of `chosen` fail, and the literals are 1.8, 8192 and 1.25.
-use Rattle.std.proofs.Common.{◌≡◌, ℕ, ◌<◌, ◌≤◌, true, false, not, pos, ◌∙◌, ap₂, rules, le-leb}
-use borrow.Author.Tests.{lt-leb, not-true, not-false}
+use Rattle.std.proofs.Common.{◌≡◌, ℕ, ◌<◌, ◌≤◌, true, false, pos, ◌∙◌, ap₂, le-leb}
+use borrow.Author.Tests.{lt-leb}
 use lib.Ieee.{Float, fin, binary64, mul, sub, le, of_int, of_bits, round}
 use Rattle.definition.specs.Plan.{ratio_f, share_f, chosen}
 use Rattle.lent.proofs.choose.Goals as goal

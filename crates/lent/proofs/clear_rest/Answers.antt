@@ -1,5 +1,5 @@
 -- `lent::clear_rest` meets its contract: each call zeroes what the used words leave of its buffer, and the counts can be multiplied since they are few.
-use Rattle.std.proofs.Common.{arith, rules}
+use Rattle.std.proofs.Common.{arith}
 use Rattle.lent.proofs.clear_rest.Goals as goal
 
 pub overflow_mul-tally-2 : goal.overflow_mul-tally-2

@@ -1,6 +1,6 @@
 -- `dense_peak` meets its contract: the two tests are the two ways out of 1 to 62, and behind them the dimension of max_k decides.
 -- within 1 to 62 the dimension of max_k decides, and so the length that was told
-use Rattle.std.proofs.Common.{◌≡◌, ◌≤◌, sym, ap, ◌∙◌, rules, le-ltb, lt-ltb}
+use Rattle.std.proofs.Common.{◌≡◌, ◌≤◌, sym, ap, ◌∙◌, le-ltb, lt-ltb}
 use Rattle.kernels.specs.Bits.{dimension, dimension_of}
 use Rattle.kernels.specs.declared.bits.ActiveLength.{ActiveLength}
 use Rattle.records.specs.declared.Head.{Head}

@@ -1,5 +1,4 @@
 -- `midvokt::midvokt_plan` meets its contract: the planner's answer is the definition's outcome, and number and words are read off that.
-use Rattle.std.proofs.Common.{rules}
 use mathlib.Core.Path.{ap, ◌∙◌}
 use lib.ListN.{length}
 use Rattle.answer.specs.Outcome.{Outcome}

@@ -1,6 +1,5 @@
 -- `midvokt::plan_word` meets its contract: each arm of the match has its number, at which the list of words has that field; 0 is the first word, and from 9 on they are those of the whole works.
 -- from word 9 on
-use Rattle.std.proofs.Common.{rules}
 use mathlib.Core.Path.{◌≡◌, refl, ap, ◌∙◌}
 use Prim.Native.Nat.{ℕ, zero, suc, ◌-◌, ◌≤◌, ◌<◌}
 use native.Mathlib.Omega.{arith}

@@ -1,5 +1,4 @@
 -- `reply_number` meets its contract: each arm gives the number of its case.
-use Rattle.std.proofs.Common.{rules}
 use mathlib.Core.Path.{sym, ap}
 use Rattle.answer.specs.declared.Planned.{Planned}
 use Rattle.answer.specs.Outcome.{outcome_of}

@@ -1,5 +1,4 @@
 -- `midvokt::result_word` meets its contract: a plan's words are those of `plan_word`, and a refusal has one, its index.
-use Rattle.std.proofs.Common.{rules}
 use mathlib.Core.Path.{◌≡◌, sym}
 use mathlib.Core.List.{[], ◌∷◌}
 use Prim.Native.Nat.{ℕ, ◌<◌}

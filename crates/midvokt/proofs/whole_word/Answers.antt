@@ -1,6 +1,5 @@
 -- `midvokt::whole_word` meets its contract: each arm of the matches has its case and its number, at which the list of words has that value; any other word is 0.
 -- zeros, and zeros behind them
-use Rattle.std.proofs.Common.{rules}
 use mathlib.Core.Path.{◌≡◌, refl, sym}
 use mathlib.Core.List.{[], ◌∷◌}
 use Prim.Native.Nat.{ℕ, zero, suc, ◌≤◌}

@@ -1,9 +1,6 @@
-use Rattle.std.proofs.Common.{rules}
-use mathlib.Core.Path.{sym, subst}
-use Prim.Native.Nat.{ℕ, suc, ◌-◌, ◌≤◌}
-use native.Mathlib.Omega.{arith}
-use lib.ListN.{length, get_or, set}
-use Rattle.definition.proofs.Filled.{Filled, filled_none, filled_next, filled_all}
+use Prim.Native.Nat.{ℕ, ◌-◌, ◌≤◌}
+use lib.ListN.{length, get_or}
+use Rattle.definition.proofs.Filled.{Filled}
 use Rattle.answer.specs.Outcome.{outcome_of}
 use Rattle.midvokt.specs.Reply.{words_of}
 use Rattle.midvokt.proofs.write_result.Given as goal

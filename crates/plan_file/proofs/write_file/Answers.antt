@@ -1,5 +1,4 @@
 -- `write_file` meets its contract: each section is written where the one before it ends, then the trailer, and the rest is cleared.
-use Rattle.std.proofs.Common.{rules}
 use mathlib.Core.Path.{◌≡◌, refl, ap, ◌∙◌}
 use mathlib.Core.List.{List, ◌++◌}
 use Prim.Native.Nat.{ℕ, ◌+◌, ◌-◌, ◌*◌}

@@ -1,5 +1,4 @@
 -- `readers::action_of` meets its contract: each field is the word of its place, or what the callees read there.
-use Rattle.std.proofs.Common.{rules}
 use Rattle.readers.proofs.action_of.Goals as goal
 
 pub returns : goal.returns

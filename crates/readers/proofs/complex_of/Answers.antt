@@ -1,5 +1,4 @@
 -- `readers::complex_of` meets its contract: each part is what the callee reads.
-use Rattle.std.proofs.Common.{rules}
 use Rattle.readers.proofs.complex_of.Goals as goal
 
 pub returns : goal.returns

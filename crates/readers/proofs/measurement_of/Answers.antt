@@ -1,5 +1,4 @@
 -- `readers::measurement_of` meets its contract: each field is the word of its place, or what the callees read there.
-use Rattle.std.proofs.Common.{rules}
 use Rattle.readers.specs.Reading.{measurement_in}
 use Rattle.readers.proofs.measurement_of.Goals as goal
 

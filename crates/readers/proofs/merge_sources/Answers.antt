@@ -1,5 +1,4 @@
 -- `readers::merge_sources` meets its contract: each test decides that the part runs past the end, and where both are passed the part is the one from offset to offset plus count.
-use Rattle.std.proofs.Common.{rules}
 use mathlib.Core.Path.{◌≡◌, sym}
 use Prim.Native.Nat.{◌+◌, ◌-◌}
 use native.Mathlib.Omega.{arith}

@@ -1,5 +1,4 @@
 -- `readers::read_measurement` meets its contract: a number below the whole rows has its 19 words there, and any other has none.
-use Rattle.std.proofs.Common.{rules}
 use native.Mathlib.Omega.{arith}
 use Rattle.readers.specs.Reading.{measurement_in}
 use Rattle.readers.proofs.Rows.{row_read, row-none}

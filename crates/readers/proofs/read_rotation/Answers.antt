@@ -1,5 +1,4 @@
 -- `readers::read_rotation` meets its contract: a number below the whole rows has its 21 words there, and any other has none.
-use Rattle.std.proofs.Common.{rules}
 use native.Mathlib.Omega.{arith}
 use Rattle.readers.specs.Reading.{rotation_in}
 use Rattle.readers.proofs.Rows.{row_read, row-none}

@@ -1,5 +1,4 @@
 -- `readers::read_step` meets its contract: a number below half the words has both its words there, and any other has none.
-use Rattle.std.proofs.Common.{rules}
 use mathlib.Core.Path.{sym}
 use native.Mathlib.Omega.{arith}
 use Rattle.readers.specs.Reading.{step_in}

@@ -1,5 +1,4 @@
 -- `readers::rotation_of` meets its contract: each field is the word of its place, or what the callees read there.
-use Rattle.std.proofs.Common.{rules}
 use Rattle.readers.specs.Reading.{rotation_in}
 use Rattle.readers.proofs.rotation_of.Goals as goal
 

@@ -1,5 +1,4 @@
 -- `readers::rotation_or_zero` meets its contract: a row that is read is the row of that number, and past the last a row of 21 zeros is read, which is the row of no words.
-use Rattle.std.proofs.Common.{rules}
 use mathlib.Core.Path.{ap, sym, ◌∙◌}
 use mathlib.Core.List.{[]}
 use mathlib.Core.Option.{Option, get_or}

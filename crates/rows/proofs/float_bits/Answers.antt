@@ -1,5 +1,4 @@
 -- `outputs::rows::float_bits` meets its contract: only a NaN differs from itself, and its bits are the constant.
-use Rattle.std.proofs.Common.{rules}
 use mathlib.Core.Path.{◌≡◌, sym, ap, ◌∙◌, subst}
 use mathlib.Core.Bool.{true, false, not}
 use Prim.Native.Nat.{ℕ}

@@ -1,5 +1,4 @@
 -- `outputs::rows::put_measurement` meets its contract: a measurement's row has 19 words, which go into the part that begins at their place.
-use Rattle.std.proofs.Common.{rules}
 use Rattle.outputs.proofs.Parts.{part_written}
 use Rattle.definition.proofs.Growth.{measurement_row_length}
 use Prim.Native.Nat.{◌*◌}

@@ -1,5 +1,4 @@
 -- `outputs::rows::put_rotation` meets its contract: a rotation's row has 21 words, which go into the part that begins at their place.
-use Rattle.std.proofs.Common.{rules}
 use Rattle.outputs.proofs.Parts.{part_written}
 use Rattle.definition.proofs.Growth.{rotation_row_length}
 use Prim.Native.Nat.{◌*◌}

@@ -1,5 +1,4 @@
 -- `outputs::rows::put_step` meets its contract: a step has two words, which go into the part that begins at their place.
-use Rattle.std.proofs.Common.{rules}
 use Rattle.outputs.proofs.Parts.{part_written}
 use mathlib.Core.Path.{refl}
 use Prim.Native.Nat.{◌*◌}

@@ -1,5 +1,4 @@
 -- `outputs::rows::write_head` meets its contract: the eleven words are stored one after the other, and each is the definition's by what the callees ensure.
-use Rattle.std.proofs.Common.{rules}
 use native.Mathlib.Omega.{arith}
 use lib.ListN.{length-set}
 use Rattle.rows.proofs.Words.{head_written}

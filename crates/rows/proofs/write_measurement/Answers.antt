@@ -1,6 +1,5 @@
 -- `outputs::rows::write_measurement` meets its contract: eight words are stored behind the eleven of the head, and each is the definition's by what the
 -- callees ensure.
-use Rattle.std.proofs.Common.{rules}
 use native.Mathlib.Omega.{arith}
 use lib.ListN.{length-set}
 use Rattle.rows.proofs.Words.{measurement_written}

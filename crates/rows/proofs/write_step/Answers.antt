@@ -1,5 +1,4 @@
 -- `outputs::rows::write_step` meets its contract: the two words are stored one after the other.
-use Rattle.std.proofs.Common.{rules}
 use mathlib.Core.List.{[], ◌∷◌}
 use lib.Seq.{sets-eq}
 use Rattle.rows.proofs.write_step.Goals as goal

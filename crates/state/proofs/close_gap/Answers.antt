@@ -1,9 +1,9 @@
 -- `state::close_gap` meets its contract. The loop's invariant: the entries below p are as the contract says, and those from p on as at entry.
 use Rattle.std.proofs.Common.{rules}
 use mathlib.Core.Path.{◌≡◌, refl, sym, ap, ◌∙◌}
-use Prim.Native.Nat.{ℕ, ◌+◌, ◌-◌, ◌<◌, ◌≤◌}
+use Prim.Native.Nat.{ℕ, ◌+◌}
 use native.Mathlib.Omega.{arith}
-use lib.ListN.{length, get_or, length-set}
+use lib.ListN.{get_or, length-set}
 use Rattle.positions.proofs.Arrays.{store_below, store_above}
 use Rattle.state.specs.Steps.{skip}
 use Rattle.state.proofs.Numbers.{skip_before, skip_behind}

@@ -1,11 +1,7 @@
-use Rattle.std.proofs.Common.{rules}
-use mathlib.Core.Path.{◌≡◌, refl, sym, ap, ◌∙◌}
-use Prim.Native.Nat.{ℕ, ◌+◌, ◌-◌, ◌<◌, ◌≤◌}
-use native.Mathlib.Omega.{arith}
-use lib.ListN.{length, get_or, length-set}
-use Rattle.positions.proofs.Arrays.{store_below, store_above}
+use mathlib.Core.Path.{◌≡◌}
+use Prim.Native.Nat.{ℕ, ◌-◌, ◌<◌, ◌≤◌}
+use lib.ListN.{length, get_or}
 use Rattle.state.specs.Steps.{skip}
-use Rattle.state.proofs.Numbers.{skip_before, skip_behind}
 use Rattle.state.proofs.close_gap.Given as goal
 
 abbrev pub invariant-loop-p : goal.invariant-loop-p

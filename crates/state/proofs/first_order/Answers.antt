@@ -1,9 +1,9 @@
 -- `state::first_order` meets its contract. The loop's invariant: the entries below i are their own positions.
 use Rattle.std.proofs.Common.{rules}
 use mathlib.Core.Path.{◌≡◌, refl}
-use Prim.Native.Nat.{ℕ, ◌-◌, ◌<◌, ◌≤◌}
+use Prim.Native.Nat.{ℕ}
 use native.Mathlib.Omega.{arith}
-use lib.ListN.{length, get_or, length-set}
+use lib.ListN.{length-set}
 use borrow.Author.Count.{below_none}
 use Rattle.positions.proofs.Arrays.{store_below}
 use Rattle.state.proofs.first_order.Goals as goal

@@ -1,10 +1,6 @@
-use Rattle.std.proofs.Common.{rules}
-use mathlib.Core.Path.{◌≡◌, refl}
+use mathlib.Core.Path.{◌≡◌}
 use Prim.Native.Nat.{ℕ, ◌-◌, ◌<◌, ◌≤◌}
-use native.Mathlib.Omega.{arith}
-use lib.ListN.{length, get_or, length-set}
-use borrow.Author.Count.{below_none}
-use Rattle.positions.proofs.Arrays.{store_below}
+use lib.ListN.{length, get_or}
 use Rattle.state.proofs.first_order.Given as goal
 
 abbrev pub invariant-loop-i : goal.invariant-loop-i

@@ -1,9 +1,9 @@
 -- `state::gather_sizes` meets its contract. The loop's invariant: what the sources from i on make of the arrays is what all make of those at entry.
 use Rattle.std.proofs.Common.{rules}
 use mathlib.Core.Path.{◌≡◌, refl, sym, ap, ◌∙◌}
-use Prim.Native.Nat.{ℕ, ◌+◌, ◌-◌, ◌≤◌}
+use Prim.Native.Nat.{ℕ, ◌+◌}
 use native.Mathlib.Omega.{arith}
-use lib.ListN.{length, get_or, drop, set, drop_of_length-le}
+use lib.ListN.{get_or, drop, set, drop_of_length-le}
 use Rattle.state.specs.Steps.{Gathering, gather_from, gathering, target_of}
 use mathlib.Core.List.{List}
 use Rattle.positions.proofs.Arrays.{rest_at}

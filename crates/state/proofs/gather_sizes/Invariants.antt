@@ -1,12 +1,7 @@
-use Rattle.std.proofs.Common.{rules}
-use mathlib.Core.Path.{◌≡◌, refl, sym, ap, ◌∙◌}
-use Prim.Native.Nat.{ℕ, ◌+◌, ◌-◌, ◌≤◌}
-use native.Mathlib.Omega.{arith}
-use lib.ListN.{length, get_or, drop, set, drop_of_length-le}
-use Rattle.state.specs.Steps.{Gathering, gather_from, gathering, target_of}
-use mathlib.Core.List.{List}
-use Rattle.positions.proofs.Arrays.{rest_at}
-use Rattle.state.proofs.Gathers.{grown_rises}
+use mathlib.Core.Path.{◌≡◌}
+use Prim.Native.Nat.{◌-◌, ◌≤◌}
+use lib.ListN.{length, drop}
+use Rattle.state.specs.Steps.{gather_from, gathering}
 use Rattle.state.proofs.gather_sizes.Given as goal
 
 abbrev pub invariant-loop-i : goal.invariant-loop-i

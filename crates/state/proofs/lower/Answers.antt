@@ -1,5 +1,4 @@
 -- `state::lower` meets its contract: its tests are those of the definition.
-use Rattle.std.proofs.Common.{rules}
 use borrow.Author.Tests.{eq-eqb, ne_eqb, lt-ltb, le-ltb}
 use Rattle.state.proofs.lower.Goals as goal
 

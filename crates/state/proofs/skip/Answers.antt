@@ -1,5 +1,4 @@
 -- `state::skip` meets its contract: its test is the one of the definition.
-use Rattle.std.proofs.Common.{rules}
 use native.Mathlib.Numerals.{add-one}
 use borrow.Author.Tests.{lt-ltb, le-ltb}
 use Rattle.state.proofs.skip.Goals as goal

@@ -1,6 +1,5 @@
 -- `store` meets its contract: the planner's answer decides; the counts that it gives are no more than the buffers' lengths, and the file is written if their words fit it.
-use Rattle.std.proofs.Common.{rules}
-use mathlib.Core.Path.{◌≡◌, sym, ◌∙◌, subst}
+use mathlib.Core.Path.{◌≡◌, sym, subst}
 use mathlib.Core.List.{List}
 use Prim.Native.Nat.{ℕ, ◌*◌, ◌≤◌}
 use native.Mathlib.Omega.{arith}

@@ -1,4 +1,3 @@
-use Rattle.std.proofs.Common.{rules}
 use Rattle.stored_plan.proofs.counts_at.Goals as goal
 
 pub returns : goal.returns

@@ -1,5 +1,4 @@
 -- `file_refused` meets its contract: each return has shown by the tests before it which of the four hold.
-use Rattle.std.proofs.Common.{rules}
 use mathlib.Core.Path.{sym, ap, ◌∙◌}
 use mathlib.Core.Bool.{not}
 use Prim.Native.Nat.{ℕ}

@@ -1,5 +1,4 @@
 -- `get_section` meets its contract: the words are read into the front of the output, and the rest is cleared.
-use Rattle.std.proofs.Common.{rules}
 use mathlib.Core.Path.{ap, ap₂, ◌∙◌}
 use Prim.Native.Nat.{ℕ, ◌≤◌}
 use native.Mathlib.Nat.{sub-zero}

@@ -1,6 +1,5 @@
 -- `load` meets its contract: where the number is not 0 reading is refused with it, and all six outputs are cleared; else every section lies in front of the
 -- trailer and fits its output, and is read into it.
-use Rattle.std.proofs.Common.{rules}
 use mathlib.Core.Path.{sym, ap, ap₂, ◌∙◌, subst}
 use native.Mathlib.Omega.{arith}
 use Rattle.stored_plan.specs.Reading.{Read}

@@ -1,9 +1,7 @@
 -- `load_number` meets its contract: each return has shown by the calls before it which of the tests of reading decide.
-use Rattle.std.proofs.Common.{rules}
 use mathlib.Core.Path.{refl, sym, ap, ap₂, ◌∙◌}
 use mathlib.Core.Bool.{true, false}
 use native.Mathlib.Omega.{arith}
-use borrow.Author.Tests.{not-true, not-false}
 use Rattle.stored_plan.specs.Reading.{odd_counts, outputs_short}
 use Rattle.stored_plan.proofs.Accepting.{whole, placed, trailer_fits, number_21, number_22, number_scalars, number_counts}
 use Rattle.stored_plan.proofs.load_number.Goals as goal

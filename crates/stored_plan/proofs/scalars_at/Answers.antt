@@ -1,5 +1,4 @@
 -- `scalars_at` meets its contract: the eight words are read by their places.
-use Rattle.std.proofs.Common.{rules}
 use mathlib.Core.Path.{sym, ap, ◌∙◌}
 use mathlib.Core.List.{List, ◌∷◌}
 use Prim.Native.Nat.{ℕ}

@@ -1,13 +1,9 @@
-use Rattle.std.proofs.Common.{rules}
-use mathlib.Core.Path.{◌≡◌, refl, sym, ap, ◌∙◌}
+use mathlib.Core.Path.{◌≡◌}
 use mathlib.Core.List.{map}
-use Prim.Native.Nat.{ℕ, ◌+◌, ◌-◌, ◌*◌, ◌≤◌}
-use native.Mathlib.Nat.{add_assoc}
-use native.Mathlib.Omega.{arith}
+use Prim.Native.Nat.{◌+◌, ◌-◌, ◌*◌, ◌≤◌}
 use Rattle.definition.specs.Lists.{numbers_from}
 use Rattle.file_words.specs.Words.{word_at}
 use Rattle.stored_plan.specs.Reading.{touch}
-use Rattle.stored_plan.proofs.Touching.{turn_misplaced, turn_past, turn_touches}
 use Rattle.stored_plan.proofs.sections_touch.Given as goal
 
 abbrev pub invariant-loop-s : goal.invariant-loop-s

@@ -1,5 +1,5 @@
 -- `tally::double_low` meets its contract: twice a power below 2 ^ 63 is the next power, and of twice a larger one nothing is left.
-use Rattle.std.proofs.Common.{sym, ◌∙◌, arith, rules}
+use Rattle.std.proofs.Common.{sym, ◌∙◌, arith}
 use Rattle.tally.proofs.Sums.{double_kept, double_gone}
 use Rattle.tally.proofs.double_low.Goals as goal
 

@@ -1,7 +1,7 @@
 -- `tally::join_of` meets its contract. The loop's invariant: the sums so far with those of the sources from i on are those of all the sources.
-use Rattle.std.proofs.Common.{◌≡◌, ℕ, ◌+◌, ◌-◌, ◌%◌, ◌^◌, ◌<◌, ◌≤◌, false, length, get_or, drop, pos, sym, ap, ◌∙◌, mod-lt, zero-add, arith, rules}
+use Rattle.std.proofs.Common.{ℕ, ◌+◌, ◌%◌, ◌^◌, ◌<◌, false, drop, pos, sym, ap, ◌∙◌, mod-lt, zero-add, arith}
 use lib.Ieee.{fin, of_bits}
-use Rattle.tally.specs.Tally.{sizes_of, powers, cost_in, whole_cost_in}
+use Rattle.tally.specs.Tally.{powers, cost_in, whole_cost_in}
 use Rattle.tally.proofs.Sums.{sizes_at, powers_at, cost_next, whole_next, all_joined}
 use Rattle.tally.proofs.join_of.Goals as goal
 

@@ -1,7 +1,6 @@
-use Rattle.std.proofs.Common.{◌≡◌, ℕ, ◌+◌, ◌-◌, ◌%◌, ◌^◌, ◌<◌, ◌≤◌, false, length, get_or, drop, pos, sym, ap, ◌∙◌, mod-lt, zero-add, arith, rules}
-use lib.Ieee.{fin, of_bits}
+use Rattle.std.proofs.Common.{◌≡◌, ◌+◌, ◌-◌, ◌%◌, ◌^◌, ◌<◌, ◌≤◌, false, length, get_or, drop, pos}
+use lib.Ieee.{fin}
 use Rattle.tally.specs.Tally.{sizes_of, powers, cost_in, whole_cost_in}
-use Rattle.tally.proofs.Sums.{sizes_at, powers_at, cost_next, whole_next, all_joined}
 use Rattle.tally.proofs.join_of.Given as goal
 
 abbrev pub invariant-loop-i : goal.invariant-loop-i

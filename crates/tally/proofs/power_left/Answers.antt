@@ -1,5 +1,5 @@
 -- `tally::power_left` meets its contract: each branch is the case of `power_left` that its test tells.
-use Rattle.std.proofs.Common.{arith, rules, le-leb}
+use Rattle.std.proofs.Common.{arith, le-leb}
 use borrow.Author.Tests.{lt-leb}
 use Rattle.tally.proofs.power_left.Goals as goal
 

@@ -1,5 +1,5 @@
 -- `tally::power_low` meets its contract: a power below 2 ^ 64 is itself, and of a larger one nothing is left.
-use Rattle.std.proofs.Common.{sym, ◌∙◌, mod-eq_of_lt, arith, rules}
+use Rattle.std.proofs.Common.{sym, ◌∙◌, mod-eq_of_lt, arith}
 use lib.Pow.{pow-lt}
 use Rattle.tally.proofs.Sums.{power_gone}
 use Rattle.tally.proofs.power_low.Goals as goal

@@ -1,5 +1,4 @@
 -- `turns::local_action` meets its contract: each mask is cut to the width, its bits go to the places, and the action is made of the two.
-use Rattle.std.proofs.Common.{rules}
 use mathlib.Core.Path.{ap, ◌∙◌}
 use Prim.Native.Nat.{ℕ, ◌%◌, ◌^◌}
 use Rattle.kernels.specs.Active.{action}

@@ -1,7 +1,6 @@
 -- `turns::measure` meets its contract: the three tests come first, then the answer is the kernel's, made of the local action and the pivot's place, and where it is
 -- given the row, the step, the longest size and the sums are written.
 -- the three tests were passed
-use Rattle.std.proofs.Common.{rules}
 use mathlib.Core.Path.{◌≡◌, refl, sym, ap, ◌∙◌}
 use mathlib.Core.Bool.{false}
 use Prim.Native.Nat.{ℕ, ◌*◌}

@@ -1,9 +1,7 @@
 -- `turns::open` meets its contract: each arm makes the tests of its kind in their order, and where all are passed the sources are gathered.
-use Rattle.std.proofs.Common.{rules}
 use mathlib.Core.Path.{◌≡◌, refl}
-use mathlib.Core.List.{List, [], ◌∷◌}
+use mathlib.Core.List.{List, []}
 use Prim.Native.Nat.{ℕ}
-use native.Mathlib.Omega.{arith}
 use lib.ListN.{length}
 use lib.Ieee.{Float}
 use Rattle.records.specs.declared.Instruction.{Instruction}

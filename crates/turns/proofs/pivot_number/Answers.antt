@@ -1,5 +1,4 @@
 -- `turns::pivot_number` meets its contract: the tests are those of the definition, in its order.
-use Rattle.std.proofs.Common.{rules}
 use mathlib.Core.Path.{sym, ◌∙◌}
 use borrow.Author.Tests.{eq-eqb, ne_eqb, le-leb, lt-leb}
 use Rattle.turns.proofs.pivot_number.Goals as goal

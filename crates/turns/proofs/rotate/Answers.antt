@@ -1,7 +1,6 @@
 -- `turns::rotate` meets its contract: the answer is the kernel's, made of the local action, and where it is given the row, the step, the longest size and the sums
 -- are written.
 -- the kernel's answer is that of the contract
-use Rattle.std.proofs.Common.{rules}
 use mathlib.Core.Path.{◌≡◌, refl, sym, ap, ◌∙◌}
 use Prim.Native.Nat.{◌*◌}
 use native.Mathlib.Omega.{arith}

@@ -1,7 +1,6 @@
 -- `lay_out` meets its contract: each turn writes the next word, so after the last the result is the list of all of them.
-use Rattle.std.proofs.Common.{rules}
 use mathlib.Core.Path.{sym, subst}
-use Prim.Native.Nat.{ℕ, suc, ◌-◌, ◌≤◌}
+use Prim.Native.Nat.{ℕ, suc}
 use native.Mathlib.Omega.{arith}
 use lib.ListN.{length, get_or, set}
 use Rattle.definition.proofs.Filled.{Filled, filled_none, filled_next, filled_all}

@@ -1,9 +1,6 @@
-use Rattle.std.proofs.Common.{rules}
-use mathlib.Core.Path.{sym, subst}
-use Prim.Native.Nat.{ℕ, suc, ◌-◌, ◌≤◌}
-use native.Mathlib.Omega.{arith}
-use lib.ListN.{length, get_or, set}
-use Rattle.definition.proofs.Filled.{Filled, filled_none, filled_next, filled_all}
+use Prim.Native.Nat.{ℕ, ◌-◌, ◌≤◌}
+use lib.ListN.{length, get_or}
+use Rattle.definition.proofs.Filled.{Filled}
 use Rattle.midvokt.proofs.stored.lay_out.Given as goal
 
 abbrev pub invariant-loop-i : goal.invariant-loop-i

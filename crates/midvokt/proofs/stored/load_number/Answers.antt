@@ -1,5 +1,4 @@
 -- `load_number` meets its contract: each arm gives the number of its case.
-use Rattle.std.proofs.Common.{rules}
 use mathlib.Core.Path.{sym, ap}
 use Rattle.stored_plan.specs.declared.Loaded.{Loaded}
 use Rattle.stored_plan.specs.Loading as Loading

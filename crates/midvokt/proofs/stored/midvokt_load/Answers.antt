@@ -1,5 +1,4 @@
 -- `midvokt_load` meets its contract: what `load` answers, in words.
-use Rattle.std.proofs.Common.{rules}
 use mathlib.Core.Path.{ap, ◌∙◌}
 use lib.ListN.{length}
 use Rattle.midvokt.specs.Reply.{laid_out}

@@ -1,5 +1,4 @@
 -- `store_words` meets its contract: each arm gives the words of its case.
-use Rattle.std.proofs.Common.{rules}
 use mathlib.Core.Path.{sym, ap}
 use Rattle.store.specs.declared.Stored.{Stored}
 use Rattle.store.specs.Storing as Storing

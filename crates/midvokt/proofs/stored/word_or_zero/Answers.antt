@@ -1,5 +1,4 @@
 -- `word_or_zero` meets its contract: past the last word there is the default.
-use Rattle.std.proofs.Common.{rules}
 use mathlib.Core.Path.{sym}
 use native.Mathlib.Omega.{arith}
 use lib.ListN.{get_or-eq_default}

@@ -1,15 +1,7 @@
-use Rattle.std.proofs.Common.{rules}
-use mathlib.Core.Path.{◌≡◌, refl, ap, ◌∙◌}
-use mathlib.Core.List.{List}
-use Prim.Native.Nat.{ℕ, ◌-◌, ◌^◌, ◌≤◌, ◌<◌, min}
-use native.Mathlib.Omega.{arith}
-use native.Mathlib.Nat.{one-mul}
-use lib.Dec.{lit<}
-use lib.ListN.{length, get_or, take}
-use lib.Seq.{take_all}
-use lib.Pow.{shl_exact}
-use Rattle.definition.specs.Components.{allocated_for}
-use Rattle.outputs.proofs.Fill.{powers, sum_more}
+use mathlib.Core.Path.{◌≡◌}
+use Prim.Native.Nat.{◌-◌, ◌^◌, ◌≤◌, min}
+use lib.ListN.{length, take}
+use Rattle.outputs.proofs.Fill.{powers}
 use Rattle.outputs.proofs.buffers.allocated.Given as goal
 
 abbrev pub invariant-loop-i : goal.invariant-loop-i

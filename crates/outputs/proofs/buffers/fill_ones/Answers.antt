@@ -1,12 +1,12 @@
 -- `outputs::buffers::fill_ones` meets its contract. The loop's invariant: the first i words are ones, and the others are as they were. The measure is
 -- the number of words left.
 use Rattle.std.proofs.Common.{rules}
-use mathlib.Core.Path.{◌≡◌, refl, ap, ◌∙◌}
+use mathlib.Core.Path.{refl, ap, ◌∙◌}
 use mathlib.Core.List.{List, ◌++◌}
-use Prim.Native.Nat.{ℕ, ◌+◌, ◌-◌, ◌≤◌}
+use Prim.Native.Nat.{ℕ}
 use native.Mathlib.Omega.{arith}
 use native.Mathlib.Nat.{le_antisymm}
-use lib.ListN.{length, set, drop, replicate, length-set}
+use lib.ListN.{set, drop, replicate, length-set}
 use borrow.Author.Fill.{fill_none, fill_more}
 use Rattle.outputs.proofs.buffers.fill_ones.Goals as goal
 

@@ -1,5 +1,4 @@
 -- `outputs::buffers::raise_size` meets its contract: the larger of the two is the size where that was stored, and else what stood there.
-use Rattle.std.proofs.Common.{rules}
 use mathlib.Core.Path.{sym, ap, ◌∙◌}
 use Prim.Native.Nat.{ℕ}
 use native.Mathlib.Nat.{max-eq_left, max-eq_right, le_of_lt}

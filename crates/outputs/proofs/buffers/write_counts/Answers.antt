@@ -3,10 +3,10 @@
 use Rattle.std.proofs.Common.{rules}
 use mathlib.Core.Path.{◌≡◌, refl, sym, ap, ◌∙◌}
 use mathlib.Core.Logic.{⊎_elim}
-use Prim.Native.Nat.{suc, ◌+◌, ◌-◌, ◌≤◌}
+use Prim.Native.Nat.{suc, ◌+◌, ◌≤◌}
 use native.Mathlib.Omega.{arith}
-use lib.ListN.{length, get_or, take, drop, length-set}
-use Rattle.outputs.specs.Buffers.{Counts, counts_from, counts_of}
+use lib.ListN.{length, get_or, take, length-set}
+use Rattle.outputs.specs.Buffers.{Counts, counts_of}
 use Rattle.outputs.proofs.Groups.{counts_empty, counts_full, counts_room, counts_end}
 use Rattle.outputs.proofs.buffers.write_counts.Goals as goal
 

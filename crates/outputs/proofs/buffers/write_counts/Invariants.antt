@@ -1,11 +1,7 @@
-use Rattle.std.proofs.Common.{rules}
-use mathlib.Core.Path.{◌≡◌, refl, sym, ap, ◌∙◌}
-use mathlib.Core.Logic.{⊎_elim}
-use Prim.Native.Nat.{suc, ◌+◌, ◌-◌, ◌≤◌}
-use native.Mathlib.Omega.{arith}
-use lib.ListN.{length, get_or, take, drop, length-set}
-use Rattle.outputs.specs.Buffers.{Counts, counts_from, counts_of}
-use Rattle.outputs.proofs.Groups.{counts_empty, counts_full, counts_room, counts_end}
+use mathlib.Core.Path.{◌≡◌}
+use Prim.Native.Nat.{◌-◌, ◌≤◌}
+use lib.ListN.{length, take, drop}
+use Rattle.outputs.specs.Buffers.{counts_from, counts_of}
 use Rattle.outputs.proofs.buffers.write_counts.Given as goal
 
 abbrev pub invariant-loop-c : goal.invariant-loop-c

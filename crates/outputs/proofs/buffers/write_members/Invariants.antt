@@ -1,11 +1,7 @@
-use Rattle.std.proofs.Common.{rules}
-use mathlib.Core.Path.{◌≡◌, refl, ap, ◌∙◌}
-use Prim.Native.Nat.{ℕ, ◌+◌, ◌-◌, ◌≤◌, ◌<◌}
-use native.Mathlib.Omega.{arith}
-use native.Mathlib.Nat.{le_antisymm}
-use lib.ListN.{length, get_or, set, length-set}
-use Rattle.outputs.specs.Buffers.{placed_up_to, word_at}
-use Rattle.outputs.proofs.Groups.{placed_more}
+use mathlib.Core.Path.{◌≡◌}
+use Prim.Native.Nat.{◌-◌, ◌≤◌}
+use lib.ListN.{length}
+use Rattle.outputs.specs.Buffers.{placed_up_to}
 use Rattle.outputs.proofs.buffers.write_members.Given as goal
 
 abbrev pub invariant-loop-p : goal.invariant-loop-p

@@ -3,12 +3,12 @@ use Rattle.std.proofs.Common.{rules}
 use mathlib.Core.Path.{◌≡◌, refl, ap, ◌∙◌}
 use mathlib.Core.List.{List}
 use mathlib.Core.Logic.{⊎_elim}
-use Prim.Native.Nat.{ℕ, ◌+◌, ◌-◌, ◌≤◌}
+use Prim.Native.Nat.{ℕ, ◌+◌}
 use native.Mathlib.Omega.{arith}
 use lib.ListN.{length, get_or}
 use borrow.Author.Count.{below_none}
 use Rattle.state.specs.Steps.{rise_at, target_of}
-use Rattle.state.proofs.Gathers.{length_after, moved, Passed, passed_same, passed_moved}
+use Rattle.state.proofs.Gathers.{length_after, moved, passed_same, passed_moved}
 use Rattle.state.proofs.State.join.Goals as goal
 
 pub overflow_cast-target : goal.overflow_cast-target

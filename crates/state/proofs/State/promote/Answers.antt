@@ -1,5 +1,4 @@
 -- `state::State::promote` meets its contract: the stores are those of the definition, and the numbers fit below 512.
-use Rattle.std.proofs.Common.{rules}
 use mathlib.Core.Path.{refl}
 use Rattle.state.specs.Steps.{promoted}
 use Rattle.state.proofs.State.promote.Goals as goal

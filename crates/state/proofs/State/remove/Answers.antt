@@ -8,7 +8,6 @@ use lib.ListN.{length, get_or, set}
 use Rattle.state.specs.Steps.{skip, lowered}
 use lib.ListN.{length-set}
 use borrow.Author.Count.{below_none}
-use Rattle.positions.specs.Positions.{Below512}
 use Rattle.positions.proofs.Arrays.{store_below, store_above, store_all}
 use Rattle.state.proofs.Numbers.{skip_near}
 use Rattle.state.proofs.State.remove.Goals as goal

@@ -1,15 +1,8 @@
-use Rattle.std.proofs.Common.{rules}
-use mathlib.Core.Path.{◌≡◌, refl, ap, ◌∙◌}
+use mathlib.Core.Path.{◌≡◌}
 use Prim.Native.Nat.{ℕ, ◌-◌, ◌<◌, ◌≤◌}
-use native.Mathlib.Omega.{arith}
-use mathlib.Core.List.{List}
-use lib.ListN.{length, get_or, set}
+use lib.ListN.{length, get_or}
 use Rattle.state.specs.Steps.{skip, lowered}
-use lib.ListN.{length-set}
-use borrow.Author.Count.{below_none}
 use Rattle.positions.specs.Positions.{Below512}
-use Rattle.positions.proofs.Arrays.{store_below, store_above, store_all}
-use Rattle.state.proofs.Numbers.{skip_near}
 use Rattle.state.proofs.State.remove.Given as goal
 
 abbrev pub invariant-loop-p : goal.invariant-loop-p

@@ -1,12 +1,10 @@
 -- `state::State::start` meets its contract. The loop's invariant: the entries below i are as the contract says, and every component number is below 512.
 use Rattle.std.proofs.Common.{rules}
 use mathlib.Core.Path.{◌≡◌, refl}
-use Prim.Native.Nat.{ℕ, ◌-◌, ◌<◌, ◌≤◌}
+use Prim.Native.Nat.{ℕ}
 use native.Mathlib.Omega.{arith}
-use lib.ListN.{length, get_or}
 use lib.ListN.{length-set, get_or-replicate}
 use borrow.Author.Count.{below_none}
-use Rattle.positions.specs.Positions.{Below512}
 use Rattle.positions.proofs.Arrays.{zeros_small, store_below, store_all}
 use Rattle.state.proofs.State.start.Goals as goal
 

@@ -1,12 +1,7 @@
-use Rattle.std.proofs.Common.{rules}
-use mathlib.Core.Path.{◌≡◌, refl}
+use mathlib.Core.Path.{◌≡◌}
 use Prim.Native.Nat.{ℕ, ◌-◌, ◌<◌, ◌≤◌}
-use native.Mathlib.Omega.{arith}
 use lib.ListN.{length, get_or}
-use lib.ListN.{length-set, get_or-replicate}
-use borrow.Author.Count.{below_none}
 use Rattle.positions.specs.Positions.{Below512}
-use Rattle.positions.proofs.Arrays.{zeros_small, store_below, store_all}
 use Rattle.state.proofs.State.start.Given as goal
 
 abbrev pub invariant-loop-i : goal.invariant-loop-i

@@ -1,6 +1,5 @@
 -- `tally::Tally::ignored` meets its contract: each field is the definition's, by what `exact_exp2` and the wrapping addition ensure.
 use Rattle.tally.specs.Tally.{ignored_tally}
-use Rattle.std.proofs.Common.{rules}
 use Rattle.tally.proofs.Tally.ignored.Goals as goal
 
 pub returns : goal.returns

@@ -1,6 +1,5 @@
 -- `tally::Tally::joined` meets its contract: each field is the definition's, by what `power`, `larger` and the wrapping addition ensure.
 use Rattle.tally.specs.Tally.{joined_tally}
-use Rattle.std.proofs.Common.{rules}
 use Rattle.tally.proofs.Tally.joined.Goals as goal
 
 pub returns : goal.returns

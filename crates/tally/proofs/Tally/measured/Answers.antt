@@ -1,5 +1,5 @@
 -- `tally::Tally::measured` meets its contract: each field is the definition's, by what the callees ensure, and the dimension after the removal is at most that before it.
-use Rattle.std.proofs.Common.{ℕ, ◌+◌, ◌*◌, ◌%◌, ◌^◌, ap, ◌∙◌, arith, rules}
+use Rattle.std.proofs.Common.{ℕ, ◌+◌, ◌*◌, ◌%◌, ◌^◌, ap, ◌∙◌, arith}
 use native.Mathlib.Nat.{mod-add-mod}
 use Rattle.tally.specs.declared.Tally.{Tally}
 use Rattle.tally.proofs.Sums.{left_below, wraps}

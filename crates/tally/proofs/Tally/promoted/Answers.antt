@@ -2,7 +2,6 @@
 use lib.Ieee.{of_bits}
 use Rattle.tally.specs.Tally.{promoted_tally}
 use Rattle.tally.proofs.Sums.{wraps}
-use Rattle.std.proofs.Common.{rules}
 use Rattle.tally.proofs.Tally.promoted.Goals as goal
 
 pub returns : goal.returns

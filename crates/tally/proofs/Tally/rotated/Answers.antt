@@ -1,5 +1,5 @@
 -- `tally::Tally::rotated` meets its contract: each field is the definition's, by what `joined`, `exact_exp2` and the additions modulo 2 ^ 64 ensure.
-use Rattle.std.proofs.Common.{ap, arith, pow_mono, rules}
+use Rattle.std.proofs.Common.{ap, arith, pow_mono}
 use Rattle.tally.specs.declared.Tally.{Tally}
 use lib.Ieee.{of_bits}
 use Rattle.tally.specs.Tally.{joined_tally, rotated_tally}

@@ -1,5 +1,5 @@
 -- `tally::Tally::whole_works` meets its contract: each branch is the case that its tests tell.
-use Rattle.std.proofs.Common.{arith, rules, le-ltb, lt-ltb, eq-eqb, ne_eqb}
+use Rattle.std.proofs.Common.{arith, le-ltb, lt-ltb, eq-eqb, ne_eqb}
 use Rattle.definition.specs.WholeWorks.{whole_works_of}
 use Rattle.tally.proofs.Tally.whole_works.Goals as goal
 
