@@ -100,8 +100,7 @@ pub fn walk(
         }
         let join = act.join;
         let count = join.count;
-        let is_joined = 1 < count;
-        if is_joined {
+        if 1 < count {
             let end = offset + count;
             join_state(&mut state, &merges[offset..end]);
         }

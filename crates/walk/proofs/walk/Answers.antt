@@ -129,7 +129,7 @@ join_state-requires c =
     let more = c.loop-i-test.true in
     let x = c.read-instruction.result in
     let now = turn-now in
-    joins inv more x now _ (placed).1 (let h = c.if-is_joined.true in let e = ap length (placed).1 in let f = counted in omega arith)
+    joins inv more x now _ (placed).1 (let h = c.if-count-gt1.true in let e = ap length (placed).1 in let f = counted in omega arith)
 
 pub ignored-tally-requires : goal.ignored-tally-requires
 ignored-tally-requires c =
@@ -169,16 +169,16 @@ loop-i-preserved-then-count-eq0 c =
       (let f = part_fits at.invariant c.loop-i-test.true c.read-instruction.result (turn-now) c.open-act.new.merges c.open-act.ensures.2 c.open-act.auto.merges in omega arith),
       part_is at.invariant c.loop-i-test.true c.read-instruction.result (turn-now) c.open-act.new.merges c.open-act.ensures.2 c.open-act.auto.merges c.open-act.result.join.count count,
     ) in
-    let met : Met c.loop-i.invariant c.loop-i-test.true c.read-instruction.result (turn-now) c.if-is_joined.state = let count = counted in
+    let met : Met c.loop-i.invariant c.loop-i-test.true c.read-instruction.result (turn-now) c.if-count-gt1.state = let count = counted in
     let s = c.loop-i.state in
     ⊎_elim
     (λ w. inl (
-      (let h = w.if-is_joined.true in omega arith),
+      (let h = w.if-count-gt1.true in omega arith),
       subst (λ v. Joined s (sources c.loop-i.invariant c.loop-i-test.true c.read-instruction.result (turn-now)) v) (sym w.state-is)
           (subst (λ l. Joined s l w.join_state.new.state) (placed).1 w.join_state.ensures),
     ))
-    (λ w. inr (w.state-is, (let h = w.if-is_joined.false in omega arith)))
-    c.if-is_joined.branch-raw in
+    (λ w. inr (w.state-is, (let h = w.if-count-gt1.false in omega arith)))
+    c.if-count-gt1.branch-raw in
     let let_through : number_before c.loop-i.state.width c.read-instruction.result ≡ 0 = sym c.open-act.ensures.0 ∙ c.if-number-ne0.false in
     let inv = c.loop-i.invariant in
     let more = c.loop-i-test.true in
@@ -187,7 +187,7 @@ loop-i-preserved-then-count-eq0 c =
     let through = let_through in
     let told = c.in-Rotation.is in
     let none_there = sym (counted) ∙ c.if-count-eq0.true in
-    ignored_goes inv more x now _ _ _ _ _ _ _ told through c.if-is_joined.state c.ignored-tally.result _ c.ignored-tally.ensures none_there (met) c.put_step.ensures c.open-act.ensures.2 refl refl refl refl (record { steps = c.put_step.auto.steps ∙ inv.long.steps; merges = c.open-act.auto.merges ∙ inv.long.merges; sizes = inv.long.sizes; rotations = inv.long.rotations; promotions = inv.long.promotions; measurements = inv.long.measurements; groups = inv.long.groups })
+    ignored_goes inv more x now _ _ _ _ _ _ _ told through c.if-count-gt1.state c.ignored-tally.result _ c.ignored-tally.ensures none_there (met) c.put_step.ensures c.open-act.ensures.2 refl refl refl refl (record { steps = c.put_step.auto.steps ∙ inv.long.steps; merges = c.open-act.auto.merges ∙ inv.long.merges; sizes = inv.long.sizes; rotations = inv.long.rotations; promotions = inv.long.promotions; measurements = inv.long.measurements; groups = inv.long.groups })
 
 pub rotate-after-requires : goal.rotate-after-requires
 rotate-after-requires c =
@@ -202,16 +202,16 @@ rotate-after-requires c =
       (let f = part_fits at.invariant c.loop-i-test.true c.read-instruction.result (turn-now) c.open-act.new.merges c.open-act.ensures.2 c.open-act.auto.merges in omega arith),
       part_is at.invariant c.loop-i-test.true c.read-instruction.result (turn-now) c.open-act.new.merges c.open-act.ensures.2 c.open-act.auto.merges c.open-act.result.join.count count,
     ) in
-    let met : Met c.loop-i.invariant c.loop-i-test.true c.read-instruction.result (turn-now) c.if-is_joined.state = let count = counted in
+    let met : Met c.loop-i.invariant c.loop-i-test.true c.read-instruction.result (turn-now) c.if-count-gt1.state = let count = counted in
     let s = c.loop-i.state in
     ⊎_elim
     (λ w. inl (
-      (let h = w.if-is_joined.true in omega arith),
+      (let h = w.if-count-gt1.true in omega arith),
       subst (λ v. Joined s (sources c.loop-i.invariant c.loop-i-test.true c.read-instruction.result (turn-now)) v) (sym w.state-is)
           (subst (λ l. Joined s l w.join_state.new.state) (placed).1 w.join_state.ensures),
     ))
-    (λ w. inr (w.state-is, (let h = w.if-is_joined.false in omega arith)))
-    c.if-is_joined.branch-raw in
+    (λ w. inr (w.state-is, (let h = w.if-count-gt1.false in omega arith)))
+    c.if-count-gt1.branch-raw in
     let let_through : number_before c.loop-i.state.width c.read-instruction.result ≡ 0 = sym c.open-act.ensures.0 ∙ c.if-number-ne0.false in
     let inv = c.loop-i.invariant in
     let more = c.loop-i-test.true in
@@ -220,7 +220,7 @@ rotate-after-requires c =
     let through = let_through in
     let told = c.in-Rotation.is in
     let not-zero = c.if-count-eq0.false in
-    record { joined_fits = rotate_asks inv more x now _ _ _ _ _ _ _ told through (λ e. not-zero (counted ∙ e)) c.if-is_joined.state (met) c.open-act.result.join c.open-act.ensures.1; row_room = rotate_room inv more x now _ _ _ _ _ _ _ told through (λ e. not-zero (counted ∙ e)) c.if-is_joined.state (met) c.open-act.result.join c.open-act.ensures.1 }
+    record { joined_fits = rotate_asks inv more x now _ _ _ _ _ _ _ told through (λ e. not-zero (counted ∙ e)) c.if-count-gt1.state (met) c.open-act.result.join c.open-act.ensures.1; row_room = rotate_room inv more x now _ _ _ _ _ _ _ told through (λ e. not-zero (counted ∙ e)) c.if-count-gt1.state (met) c.open-act.result.join c.open-act.ensures.1 }
 
 pub returns-then-number-ne0-2 : goal.returns-then-number-ne0-2
 returns-then-number-ne0-2 c =
@@ -235,16 +235,16 @@ returns-then-number-ne0-2 c =
       (let f = part_fits at.invariant c.loop-i-test.true c.read-instruction.result (turn-now) c.open-act.new.merges c.open-act.ensures.2 c.open-act.auto.merges in omega arith),
       part_is at.invariant c.loop-i-test.true c.read-instruction.result (turn-now) c.open-act.new.merges c.open-act.ensures.2 c.open-act.auto.merges c.open-act.result.join.count count,
     ) in
-    let met : Met c.loop-i.invariant c.loop-i-test.true c.read-instruction.result (turn-now) c.if-is_joined.state = let count = counted in
+    let met : Met c.loop-i.invariant c.loop-i-test.true c.read-instruction.result (turn-now) c.if-count-gt1.state = let count = counted in
     let s = c.loop-i.state in
     ⊎_elim
     (λ w. inl (
-      (let h = w.if-is_joined.true in omega arith),
+      (let h = w.if-count-gt1.true in omega arith),
       subst (λ v. Joined s (sources c.loop-i.invariant c.loop-i-test.true c.read-instruction.result (turn-now)) v) (sym w.state-is)
           (subst (λ l. Joined s l w.join_state.new.state) (placed).1 w.join_state.ensures),
     ))
-    (λ w. inr (w.state-is, (let h = w.if-is_joined.false in omega arith)))
-    c.if-is_joined.branch-raw in
+    (λ w. inr (w.state-is, (let h = w.if-count-gt1.false in omega arith)))
+    c.if-count-gt1.branch-raw in
     let let_through : number_before c.loop-i.state.width c.read-instruction.result ≡ 0 = sym c.open-act.ensures.0 ∙ c.if-number-ne0.false in
     let inv = c.loop-i.invariant in
     let more = c.loop-i-test.true in
@@ -253,7 +253,7 @@ returns-then-number-ne0-2 c =
     let through = let_through in
     let told = c.in-Rotation.is in
     let not-zero = c.if-count-eq0.false in
-    rotate_stops inv more x now _ _ _ _ _ _ _ told through (λ e. not-zero (counted ∙ e)) c.if-is_joined.state (met) c.open-act.result.join c.open-act.ensures.1 c.rotate-after.result.number _ _ c.rotate-after.ensures c.if-number-ne0-2.true
+    rotate_stops inv more x now _ _ _ _ _ _ _ told through (λ e. not-zero (counted ∙ e)) c.if-count-gt1.state (met) c.open-act.result.join c.open-act.ensures.1 c.rotate-after.result.number _ _ c.rotate-after.ensures c.if-number-ne0-2.true
 
 pub loop-i-smaller-else-count-eq0 : goal.loop-i-smaller-else-count-eq0
 loop-i-smaller-else-count-eq0 c =
@@ -273,16 +273,16 @@ loop-i-preserved-else-count-eq0 c =
       (let f = part_fits at.invariant c.loop-i-test.true c.read-instruction.result (turn-now) c.open-act.new.merges c.open-act.ensures.2 c.open-act.auto.merges in omega arith),
       part_is at.invariant c.loop-i-test.true c.read-instruction.result (turn-now) c.open-act.new.merges c.open-act.ensures.2 c.open-act.auto.merges c.open-act.result.join.count count,
     ) in
-    let met : Met c.loop-i.invariant c.loop-i-test.true c.read-instruction.result (turn-now) c.if-is_joined.state = let count = counted in
+    let met : Met c.loop-i.invariant c.loop-i-test.true c.read-instruction.result (turn-now) c.if-count-gt1.state = let count = counted in
     let s = c.loop-i.state in
     ⊎_elim
     (λ w. inl (
-      (let h = w.if-is_joined.true in omega arith),
+      (let h = w.if-count-gt1.true in omega arith),
       subst (λ v. Joined s (sources c.loop-i.invariant c.loop-i-test.true c.read-instruction.result (turn-now)) v) (sym w.state-is)
           (subst (λ l. Joined s l w.join_state.new.state) (placed).1 w.join_state.ensures),
     ))
-    (λ w. inr (w.state-is, (let h = w.if-is_joined.false in omega arith)))
-    c.if-is_joined.branch-raw in
+    (λ w. inr (w.state-is, (let h = w.if-count-gt1.false in omega arith)))
+    c.if-count-gt1.branch-raw in
     let let_through : number_before c.loop-i.state.width c.read-instruction.result ≡ 0 = sym c.open-act.ensures.0 ∙ c.if-number-ne0.false in
     let inv = c.loop-i.invariant in
     let more = c.loop-i-test.true in
@@ -291,7 +291,7 @@ loop-i-preserved-else-count-eq0 c =
     let through = let_through in
     let told = c.in-Rotation.is in
     let not-zero = c.if-count-eq0.false in
-    rotate_goes inv more x now _ _ _ _ _ _ _ told through (λ e. not-zero (counted ∙ e)) c.if-is_joined.state (met) c.open-act.result.join c.open-act.ensures.1 c.rotate-after.result.number c.rotate-after.result.tally _ c.rotate-after.ensures c.if-number-ne0-2.false c.open-act.ensures.2 refl refl (record { steps = c.rotate-after.auto.steps ∙ inv.long.steps; merges = c.open-act.auto.merges ∙ inv.long.merges; sizes = c.rotate-after.auto.sizes ∙ inv.long.sizes; rotations = c.rotate-after.auto.rotations ∙ inv.long.rotations; promotions = inv.long.promotions; measurements = inv.long.measurements; groups = inv.long.groups })
+    rotate_goes inv more x now _ _ _ _ _ _ _ told through (λ e. not-zero (counted ∙ e)) c.if-count-gt1.state (met) c.open-act.result.join c.open-act.ensures.1 c.rotate-after.result.number c.rotate-after.result.tally _ c.rotate-after.ensures c.if-number-ne0-2.false c.open-act.ensures.2 refl refl (record { steps = c.rotate-after.auto.steps ∙ inv.long.steps; merges = c.open-act.auto.merges ∙ inv.long.merges; sizes = c.rotate-after.auto.sizes ∙ inv.long.sizes; rotations = c.rotate-after.auto.rotations ∙ inv.long.rotations; promotions = inv.long.promotions; measurements = inv.long.measurements; groups = inv.long.groups })
 
 pub promote-tally-requires : goal.promote-tally-requires
 promote-tally-requires c =
@@ -306,16 +306,16 @@ promote-tally-requires c =
       (let f = part_fits at.invariant c.loop-i-test.true c.read-instruction.result (turn-now) c.open-act.new.merges c.open-act.ensures.2 c.open-act.auto.merges in omega arith),
       part_is at.invariant c.loop-i-test.true c.read-instruction.result (turn-now) c.open-act.new.merges c.open-act.ensures.2 c.open-act.auto.merges c.open-act.result.join.count count,
     ) in
-    let met : Met c.loop-i.invariant c.loop-i-test.true c.read-instruction.result (turn-now) c.if-is_joined.state = let count = counted in
+    let met : Met c.loop-i.invariant c.loop-i-test.true c.read-instruction.result (turn-now) c.if-count-gt1.state = let count = counted in
     let s = c.loop-i.state in
     ⊎_elim
     (λ w. inl (
-      (let h = w.if-is_joined.true in omega arith),
+      (let h = w.if-count-gt1.true in omega arith),
       subst (λ v. Joined s (sources c.loop-i.invariant c.loop-i-test.true c.read-instruction.result (turn-now)) v) (sym w.state-is)
           (subst (λ l. Joined s l w.join_state.new.state) (placed).1 w.join_state.ensures),
     ))
-    (λ w. inr (w.state-is, (let h = w.if-is_joined.false in omega arith)))
-    c.if-is_joined.branch-raw in
+    (λ w. inr (w.state-is, (let h = w.if-count-gt1.false in omega arith)))
+    c.if-count-gt1.branch-raw in
     let let_through : number_before c.loop-i.state.width c.read-instruction.result ≡ 0 = sym c.open-act.ensures.0 ∙ c.if-number-ne0.false in
     let inv = c.loop-i.invariant in
     let more = c.loop-i-test.true in
@@ -323,7 +323,7 @@ promote-tally-requires c =
     let now = turn-now in
     let through = let_through in
     let told = c.in-Promotion.is in
-    promote_asks inv more x now told c.if-is_joined.state (met)
+    promote_asks inv more x now told c.if-count-gt1.state (met)
 
 pub append-requires : goal.append-requires
 append-requires c =
@@ -338,22 +338,22 @@ append-requires c =
       (let f = part_fits at.invariant c.loop-i-test.true c.read-instruction.result (turn-now) c.open-act.new.merges c.open-act.ensures.2 c.open-act.auto.merges in omega arith),
       part_is at.invariant c.loop-i-test.true c.read-instruction.result (turn-now) c.open-act.new.merges c.open-act.ensures.2 c.open-act.auto.merges c.open-act.result.join.count count,
     ) in
-    let met : Met c.loop-i.invariant c.loop-i-test.true c.read-instruction.result (turn-now) c.if-is_joined.state = let count = counted in
+    let met : Met c.loop-i.invariant c.loop-i-test.true c.read-instruction.result (turn-now) c.if-count-gt1.state = let count = counted in
     let s = c.loop-i.state in
     ⊎_elim
     (λ w. inl (
-      (let h = w.if-is_joined.true in omega arith),
+      (let h = w.if-count-gt1.true in omega arith),
       subst (λ v. Joined s (sources c.loop-i.invariant c.loop-i-test.true c.read-instruction.result (turn-now)) v) (sym w.state-is)
           (subst (λ l. Joined s l w.join_state.new.state) (placed).1 w.join_state.ensures),
     ))
-    (λ w. inr (w.state-is, (let h = w.if-is_joined.false in omega arith)))
-    c.if-is_joined.branch-raw in
+    (λ w. inr (w.state-is, (let h = w.if-count-gt1.false in omega arith)))
+    c.if-count-gt1.branch-raw in
     let inv = c.loop-i.invariant in
     let more = c.loop-i-test.true in
     let x = c.read-instruction.result in
     let now = turn-now in
     let told = c.in-Promotion.is in
-    promoted_asks inv more x now told c.if-is_joined.state (met)
+    promoted_asks inv more x now told c.if-count-gt1.state (met)
 
 pub promote_state-requires : goal.promote_state-requires
 promote_state-requires c =
@@ -368,16 +368,16 @@ promote_state-requires c =
       (let f = part_fits at.invariant c.loop-i-test.true c.read-instruction.result (turn-now) c.open-act.new.merges c.open-act.ensures.2 c.open-act.auto.merges in omega arith),
       part_is at.invariant c.loop-i-test.true c.read-instruction.result (turn-now) c.open-act.new.merges c.open-act.ensures.2 c.open-act.auto.merges c.open-act.result.join.count count,
     ) in
-    let met : Met c.loop-i.invariant c.loop-i-test.true c.read-instruction.result (turn-now) c.if-is_joined.state = let count = counted in
+    let met : Met c.loop-i.invariant c.loop-i-test.true c.read-instruction.result (turn-now) c.if-count-gt1.state = let count = counted in
     let s = c.loop-i.state in
     ⊎_elim
     (λ w. inl (
-      (let h = w.if-is_joined.true in omega arith),
+      (let h = w.if-count-gt1.true in omega arith),
       subst (λ v. Joined s (sources c.loop-i.invariant c.loop-i-test.true c.read-instruction.result (turn-now)) v) (sym w.state-is)
           (subst (λ l. Joined s l w.join_state.new.state) (placed).1 w.join_state.ensures),
     ))
-    (λ w. inr (w.state-is, (let h = w.if-is_joined.false in omega arith)))
-    c.if-is_joined.branch-raw in
+    (λ w. inr (w.state-is, (let h = w.if-count-gt1.false in omega arith)))
+    c.if-count-gt1.branch-raw in
     let let_through : number_before c.loop-i.state.width c.read-instruction.result ≡ 0 = sym c.open-act.ensures.0 ∙ c.if-number-ne0.false in
     let inv = c.loop-i.invariant in
     let more = c.loop-i-test.true in
@@ -385,7 +385,7 @@ promote_state-requires c =
     let now = turn-now in
     let through = let_through in
     let told = c.in-Promotion.is in
-    promoted_asks inv more x now told c.if-is_joined.state (met)
+    promoted_asks inv more x now told c.if-count-gt1.state (met)
 
 pub loop-i-smaller-in-Promotion : goal.loop-i-smaller-in-Promotion
 loop-i-smaller-in-Promotion c =
@@ -405,16 +405,16 @@ loop-i-preserved-in-Promotion c =
       (let f = part_fits at.invariant c.loop-i-test.true c.read-instruction.result (turn-now) c.open-act.new.merges c.open-act.ensures.2 c.open-act.auto.merges in omega arith),
       part_is at.invariant c.loop-i-test.true c.read-instruction.result (turn-now) c.open-act.new.merges c.open-act.ensures.2 c.open-act.auto.merges c.open-act.result.join.count count,
     ) in
-    let met : Met c.loop-i.invariant c.loop-i-test.true c.read-instruction.result (turn-now) c.if-is_joined.state = let count = counted in
+    let met : Met c.loop-i.invariant c.loop-i-test.true c.read-instruction.result (turn-now) c.if-count-gt1.state = let count = counted in
     let s = c.loop-i.state in
     ⊎_elim
     (λ w. inl (
-      (let h = w.if-is_joined.true in omega arith),
+      (let h = w.if-count-gt1.true in omega arith),
       subst (λ v. Joined s (sources c.loop-i.invariant c.loop-i-test.true c.read-instruction.result (turn-now)) v) (sym w.state-is)
           (subst (λ l. Joined s l w.join_state.new.state) (placed).1 w.join_state.ensures),
     ))
-    (λ w. inr (w.state-is, (let h = w.if-is_joined.false in omega arith)))
-    c.if-is_joined.branch-raw in
+    (λ w. inr (w.state-is, (let h = w.if-count-gt1.false in omega arith)))
+    c.if-count-gt1.branch-raw in
     let let_through : number_before c.loop-i.state.width c.read-instruction.result ≡ 0 = sym c.open-act.ensures.0 ∙ c.if-number-ne0.false in
     let inv = c.loop-i.invariant in
     let more = c.loop-i-test.true in
@@ -422,7 +422,7 @@ loop-i-preserved-in-Promotion c =
     let now = turn-now in
     let through = let_through in
     let told = c.in-Promotion.is in
-    promote_goes inv more x now told c.if-is_joined.state (met) c.promote-tally.result _ c.promote_state.new.state c.append.new.order c.promote-tally.ensures c.promote_state.ensures c.append.ensures c.open-act.ensures.2 refl refl (record { steps = c.promote-tally.auto.steps ∙ inv.long.steps; merges = c.open-act.auto.merges ∙ inv.long.merges; sizes = c.promote-tally.auto.sizes ∙ inv.long.sizes; rotations = inv.long.rotations; promotions = c.promote-tally.auto.promotions ∙ inv.long.promotions; measurements = inv.long.measurements; groups = inv.long.groups })
+    promote_goes inv more x now told c.if-count-gt1.state (met) c.promote-tally.result _ c.promote_state.new.state c.append.new.order c.promote-tally.ensures c.promote_state.ensures c.append.ensures c.open-act.ensures.2 refl refl (record { steps = c.promote-tally.auto.steps ∙ inv.long.steps; merges = c.open-act.auto.merges ∙ inv.long.merges; sizes = c.promote-tally.auto.sizes ∙ inv.long.sizes; rotations = inv.long.rotations; promotions = c.promote-tally.auto.promotions ∙ inv.long.promotions; measurements = inv.long.measurements; groups = inv.long.groups })
 
 pub measure-after-requires : goal.measure-after-requires
 measure-after-requires c =
@@ -437,16 +437,16 @@ measure-after-requires c =
       (let f = part_fits at.invariant c.loop-i-test.true c.read-instruction.result (turn-now) c.open-act.new.merges c.open-act.ensures.2 c.open-act.auto.merges in omega arith),
       part_is at.invariant c.loop-i-test.true c.read-instruction.result (turn-now) c.open-act.new.merges c.open-act.ensures.2 c.open-act.auto.merges c.open-act.result.join.count count,
     ) in
-    let met : Met c.loop-i.invariant c.loop-i-test.true c.read-instruction.result (turn-now) c.if-is_joined.state = let count = counted in
+    let met : Met c.loop-i.invariant c.loop-i-test.true c.read-instruction.result (turn-now) c.if-count-gt1.state = let count = counted in
     let s = c.loop-i.state in
     ⊎_elim
     (λ w. inl (
-      (let h = w.if-is_joined.true in omega arith),
+      (let h = w.if-count-gt1.true in omega arith),
       subst (λ v. Joined s (sources c.loop-i.invariant c.loop-i-test.true c.read-instruction.result (turn-now)) v) (sym w.state-is)
           (subst (λ l. Joined s l w.join_state.new.state) (placed).1 w.join_state.ensures),
     ))
-    (λ w. inr (w.state-is, (let h = w.if-is_joined.false in omega arith)))
-    c.if-is_joined.branch-raw in
+    (λ w. inr (w.state-is, (let h = w.if-count-gt1.false in omega arith)))
+    c.if-count-gt1.branch-raw in
     let let_through : number_before c.loop-i.state.width c.read-instruction.result ≡ 0 = sym c.open-act.ensures.0 ∙ c.if-number-ne0.false in
     let inv = c.loop-i.invariant in
     let more = c.loop-i-test.true in
@@ -454,7 +454,7 @@ measure-after-requires c =
     let now = turn-now in
     let through = let_through in
     let told = c.in-Measurement.is in
-    record { joined_fits = measure_asks inv more x now _ _ _ _ _ told through c.if-is_joined.state (met) c.open-act.result.join c.open-act.ensures.1; row_room = measure_room inv more x now _ _ _ _ _ told through c.if-is_joined.state (met) c.open-act.result.join c.open-act.ensures.1 }
+    record { joined_fits = measure_asks inv more x now _ _ _ _ _ told through c.if-count-gt1.state (met) c.open-act.result.join c.open-act.ensures.1; row_room = measure_room inv more x now _ _ _ _ _ told through c.if-count-gt1.state (met) c.open-act.result.join c.open-act.ensures.1 }
 
 pub returns-then-number-ne0-3 : goal.returns-then-number-ne0-3
 returns-then-number-ne0-3 c =
@@ -469,16 +469,16 @@ returns-then-number-ne0-3 c =
       (let f = part_fits at.invariant c.loop-i-test.true c.read-instruction.result (turn-now) c.open-act.new.merges c.open-act.ensures.2 c.open-act.auto.merges in omega arith),
       part_is at.invariant c.loop-i-test.true c.read-instruction.result (turn-now) c.open-act.new.merges c.open-act.ensures.2 c.open-act.auto.merges c.open-act.result.join.count count,
     ) in
-    let met : Met c.loop-i.invariant c.loop-i-test.true c.read-instruction.result (turn-now) c.if-is_joined.state = let count = counted in
+    let met : Met c.loop-i.invariant c.loop-i-test.true c.read-instruction.result (turn-now) c.if-count-gt1.state = let count = counted in
     let s = c.loop-i.state in
     ⊎_elim
     (λ w. inl (
-      (let h = w.if-is_joined.true in omega arith),
+      (let h = w.if-count-gt1.true in omega arith),
       subst (λ v. Joined s (sources c.loop-i.invariant c.loop-i-test.true c.read-instruction.result (turn-now)) v) (sym w.state-is)
           (subst (λ l. Joined s l w.join_state.new.state) (placed).1 w.join_state.ensures),
     ))
-    (λ w. inr (w.state-is, (let h = w.if-is_joined.false in omega arith)))
-    c.if-is_joined.branch-raw in
+    (λ w. inr (w.state-is, (let h = w.if-count-gt1.false in omega arith)))
+    c.if-count-gt1.branch-raw in
     let let_through : number_before c.loop-i.state.width c.read-instruction.result ≡ 0 = sym c.open-act.ensures.0 ∙ c.if-number-ne0.false in
     let inv = c.loop-i.invariant in
     let more = c.loop-i-test.true in
@@ -486,7 +486,7 @@ returns-then-number-ne0-3 c =
     let now = turn-now in
     let through = let_through in
     let told = c.in-Measurement.is in
-    measure_stops inv more x now _ _ _ _ _ told through c.if-is_joined.state (met) c.open-act.result.join c.open-act.ensures.1 c.measure-after.result.number _ _ c.measure-after.ensures c.if-number-ne0-3.true
+    measure_stops inv more x now _ _ _ _ _ told through c.if-count-gt1.state (met) c.open-act.result.join c.open-act.ensures.1 c.measure-after.result.number _ _ c.measure-after.ensures c.if-number-ne0-3.true
 
 pub remove_state-requires : goal.remove_state-requires
 remove_state-requires c =
@@ -501,16 +501,16 @@ remove_state-requires c =
       (let f = part_fits at.invariant c.loop-i-test.true c.read-instruction.result (turn-now) c.open-act.new.merges c.open-act.ensures.2 c.open-act.auto.merges in omega arith),
       part_is at.invariant c.loop-i-test.true c.read-instruction.result (turn-now) c.open-act.new.merges c.open-act.ensures.2 c.open-act.auto.merges c.open-act.result.join.count count,
     ) in
-    let met : Met c.loop-i.invariant c.loop-i-test.true c.read-instruction.result (turn-now) c.if-is_joined.state = let count = counted in
+    let met : Met c.loop-i.invariant c.loop-i-test.true c.read-instruction.result (turn-now) c.if-count-gt1.state = let count = counted in
     let s = c.loop-i.state in
     ⊎_elim
     (λ w. inl (
-      (let h = w.if-is_joined.true in omega arith),
+      (let h = w.if-count-gt1.true in omega arith),
       subst (λ v. Joined s (sources c.loop-i.invariant c.loop-i-test.true c.read-instruction.result (turn-now)) v) (sym w.state-is)
           (subst (λ l. Joined s l w.join_state.new.state) (placed).1 w.join_state.ensures),
     ))
-    (λ w. inr (w.state-is, (let h = w.if-is_joined.false in omega arith)))
-    c.if-is_joined.branch-raw in
+    (λ w. inr (w.state-is, (let h = w.if-count-gt1.false in omega arith)))
+    c.if-count-gt1.branch-raw in
     let let_through : number_before c.loop-i.state.width c.read-instruction.result ≡ 0 = sym c.open-act.ensures.0 ∙ c.if-number-ne0.false in
     let inv = c.loop-i.invariant in
     let more = c.loop-i-test.true in
@@ -518,7 +518,7 @@ remove_state-requires c =
     let now = turn-now in
     let through = let_through in
     let told = c.in-Measurement.is in
-    remove_asks inv more x now _ _ _ _ _ told through c.if-is_joined.state (met) c.open-act.result.join c.open-act.ensures.1 c.measure-after.result.number _ c.measure-after.ensures c.if-number-ne0-3.false
+    remove_asks inv more x now _ _ _ _ _ told through c.if-count-gt1.state (met) c.open-act.result.join c.open-act.ensures.1 c.measure-after.result.number _ c.measure-after.ensures c.if-number-ne0-3.false
 
 pub close_gap-requires : goal.close_gap-requires
 close_gap-requires c =
@@ -533,16 +533,16 @@ close_gap-requires c =
       (let f = part_fits at.invariant c.loop-i-test.true c.read-instruction.result (turn-now) c.open-act.new.merges c.open-act.ensures.2 c.open-act.auto.merges in omega arith),
       part_is at.invariant c.loop-i-test.true c.read-instruction.result (turn-now) c.open-act.new.merges c.open-act.ensures.2 c.open-act.auto.merges c.open-act.result.join.count count,
     ) in
-    let met : Met c.loop-i.invariant c.loop-i-test.true c.read-instruction.result (turn-now) c.if-is_joined.state = let count = counted in
+    let met : Met c.loop-i.invariant c.loop-i-test.true c.read-instruction.result (turn-now) c.if-count-gt1.state = let count = counted in
     let s = c.loop-i.state in
     ⊎_elim
     (λ w. inl (
-      (let h = w.if-is_joined.true in omega arith),
+      (let h = w.if-count-gt1.true in omega arith),
       subst (λ v. Joined s (sources c.loop-i.invariant c.loop-i-test.true c.read-instruction.result (turn-now)) v) (sym w.state-is)
           (subst (λ l. Joined s l w.join_state.new.state) (placed).1 w.join_state.ensures),
     ))
-    (λ w. inr (w.state-is, (let h = w.if-is_joined.false in omega arith)))
-    c.if-is_joined.branch-raw in
+    (λ w. inr (w.state-is, (let h = w.if-count-gt1.false in omega arith)))
+    c.if-count-gt1.branch-raw in
     let let_through : number_before c.loop-i.state.width c.read-instruction.result ≡ 0 = sym c.open-act.ensures.0 ∙ c.if-number-ne0.false in
     let inv = c.loop-i.invariant in
     let more = c.loop-i-test.true in
@@ -550,8 +550,8 @@ close_gap-requires c =
     let now = turn-now in
     let through = let_through in
     let told = c.in-Measurement.is in
-    gap_fits inv more x now _ _ _ _ _ told through c.if-is_joined.state (met) c.open-act.result.join c.open-act.ensures.1 c.remove_state.new.state c.remove_state.ensures
-    (remove_asks inv more x now _ _ _ _ _ told through c.if-is_joined.state (met) c.open-act.result.join c.open-act.ensures.1 c.measure-after.result.number _ c.measure-after.ensures c.if-number-ne0-3.false)
+    gap_fits inv more x now _ _ _ _ _ told through c.if-count-gt1.state (met) c.open-act.result.join c.open-act.ensures.1 c.remove_state.new.state c.remove_state.ensures
+    (remove_asks inv more x now _ _ _ _ _ told through c.if-count-gt1.state (met) c.open-act.result.join c.open-act.ensures.1 c.measure-after.result.number _ c.measure-after.ensures c.if-number-ne0-3.false)
 
 pub loop-i-smaller-in-Measurement : goal.loop-i-smaller-in-Measurement
 loop-i-smaller-in-Measurement c =
@@ -571,16 +571,16 @@ loop-i-preserved-in-Measurement c =
       (let f = part_fits at.invariant c.loop-i-test.true c.read-instruction.result (turn-now) c.open-act.new.merges c.open-act.ensures.2 c.open-act.auto.merges in omega arith),
       part_is at.invariant c.loop-i-test.true c.read-instruction.result (turn-now) c.open-act.new.merges c.open-act.ensures.2 c.open-act.auto.merges c.open-act.result.join.count count,
     ) in
-    let met : Met c.loop-i.invariant c.loop-i-test.true c.read-instruction.result (turn-now) c.if-is_joined.state = let count = counted in
+    let met : Met c.loop-i.invariant c.loop-i-test.true c.read-instruction.result (turn-now) c.if-count-gt1.state = let count = counted in
     let s = c.loop-i.state in
     ⊎_elim
     (λ w. inl (
-      (let h = w.if-is_joined.true in omega arith),
+      (let h = w.if-count-gt1.true in omega arith),
       subst (λ v. Joined s (sources c.loop-i.invariant c.loop-i-test.true c.read-instruction.result (turn-now)) v) (sym w.state-is)
           (subst (λ l. Joined s l w.join_state.new.state) (placed).1 w.join_state.ensures),
     ))
-    (λ w. inr (w.state-is, (let h = w.if-is_joined.false in omega arith)))
-    c.if-is_joined.branch-raw in
+    (λ w. inr (w.state-is, (let h = w.if-count-gt1.false in omega arith)))
+    c.if-count-gt1.branch-raw in
     let let_through : number_before c.loop-i.state.width c.read-instruction.result ≡ 0 = sym c.open-act.ensures.0 ∙ c.if-number-ne0.false in
     let inv = c.loop-i.invariant in
     let more = c.loop-i-test.true in
@@ -588,7 +588,7 @@ loop-i-preserved-in-Measurement c =
     let now = turn-now in
     let through = let_through in
     let told = c.in-Measurement.is in
-    measure_goes inv more x now _ _ _ _ _ told through c.if-is_joined.state (met) c.open-act.result.join c.open-act.ensures.1 c.measure-after.result.number c.measure-after.result.tally _ c.remove_state.new.state c.close_gap.new.order c.measure-after.ensures c.if-number-ne0-3.false c.remove_state.ensures c.close_gap.ensures c.open-act.ensures.2 refl refl (record { steps = c.measure-after.auto.steps ∙ inv.long.steps; merges = c.open-act.auto.merges ∙ inv.long.merges; sizes = c.measure-after.auto.sizes ∙ inv.long.sizes; rotations = inv.long.rotations; promotions = inv.long.promotions; measurements = c.measure-after.auto.measurements ∙ inv.long.measurements; groups = inv.long.groups })
+    measure_goes inv more x now _ _ _ _ _ told through c.if-count-gt1.state (met) c.open-act.result.join c.open-act.ensures.1 c.measure-after.result.number c.measure-after.result.tally _ c.remove_state.new.state c.close_gap.new.order c.measure-after.ensures c.if-number-ne0-3.false c.remove_state.ensures c.close_gap.ensures c.open-act.ensures.2 refl refl (record { steps = c.measure-after.auto.steps ∙ inv.long.steps; merges = c.open-act.auto.merges ∙ inv.long.merges; sizes = c.measure-after.auto.sizes ∙ inv.long.sizes; rotations = inv.long.rotations; promotions = inv.long.promotions; measurements = c.measure-after.auto.measurements ∙ inv.long.measurements; groups = inv.long.groups })
 
 pub put_step-requires-in_default : goal.put_step-requires-in_default
 put_step-requires-in_default c =
@@ -618,16 +618,16 @@ loop-i-preserved c =
       (let f = part_fits at.invariant c.loop-i-test.true c.read-instruction.result (turn-now) c.open-act.new.merges c.open-act.ensures.2 c.open-act.auto.merges in omega arith),
       part_is at.invariant c.loop-i-test.true c.read-instruction.result (turn-now) c.open-act.new.merges c.open-act.ensures.2 c.open-act.auto.merges c.open-act.result.join.count count,
     ) in
-    let met : Met c.loop-i.invariant c.loop-i-test.true c.read-instruction.result (turn-now) c.if-is_joined.state = let count = counted in
+    let met : Met c.loop-i.invariant c.loop-i-test.true c.read-instruction.result (turn-now) c.if-count-gt1.state = let count = counted in
     let s = c.loop-i.state in
     ⊎_elim
     (λ w. inl (
-      (let h = w.if-is_joined.true in omega arith),
+      (let h = w.if-count-gt1.true in omega arith),
       subst (λ v. Joined s (sources c.loop-i.invariant c.loop-i-test.true c.read-instruction.result (turn-now)) v) (sym w.state-is)
           (subst (λ l. Joined s l w.join_state.new.state) (placed).1 w.join_state.ensures),
     ))
-    (λ w. inr (w.state-is, (let h = w.if-is_joined.false in omega arith)))
-    c.if-is_joined.branch-raw in
+    (λ w. inr (w.state-is, (let h = w.if-count-gt1.false in omega arith)))
+    c.if-count-gt1.branch-raw in
     let let_through : number_before c.loop-i.state.width c.read-instruction.result ≡ 0 = sym c.open-act.ensures.0 ∙ c.if-number-ne0.false in
     let inv = c.loop-i.invariant in
     let more = c.loop-i-test.true in
@@ -635,7 +635,7 @@ loop-i-preserved c =
     let now = turn-now in
     let through = let_through in
     let quiet = does_nothing _ inv.w _ _ x c.in_default.not-Rotation c.in_default.not-Promotion c.in_default.not-Measurement in
-    plain_goes inv more x now quiet.0 quiet.1 c.if-is_joined.state (met) _ c.put_step-in_default.ensures c.open-act.ensures.2 refl refl refl refl (record { steps = c.put_step-in_default.auto.steps ∙ inv.long.steps; merges = c.open-act.auto.merges ∙ inv.long.merges; sizes = inv.long.sizes; rotations = inv.long.rotations; promotions = inv.long.promotions; measurements = inv.long.measurements; groups = inv.long.groups })
+    plain_goes inv more x now quiet.0 quiet.1 c.if-count-gt1.state (met) _ c.put_step-in_default.ensures c.open-act.ensures.2 refl refl refl refl (record { steps = c.put_step-in_default.auto.steps ∙ inv.long.steps; merges = c.open-act.auto.merges ∙ inv.long.merges; sizes = inv.long.sizes; rotations = inv.long.rotations; promotions = inv.long.promotions; measurements = inv.long.measurements; groups = inv.long.groups })
 
 pub write_counts-starts-requires : goal.write_counts-starts-requires
 write_counts-starts-requires c =
