@@ -74,9 +74,8 @@ extern "C" {
 #define MIDVOKT_VERSION "0.5.0"
 
 /* Bytes of stack that each call needs, whatever its arguments. At its worst a call was measured
- * to use 13,896 of them on x86-64: 10,776 of its own, and 3,120 where the system looks up
- * memcpy only as the first call reaches it; a later call, 10,792 at its worst. It calls nothing
- * back and does not recurse. */
+ * to use 14,024 of them on x86-64: 10,856 of its own, and 3,168 where the system looks up
+ * memcpy only as the first call reaches it. It calls nothing back and does not recurse. */
 #define MIDVOKT_STACK_BYTES 16384
 
 /* The largest ceiling, that of a controller that holds registers of up to 61 coordinates. With

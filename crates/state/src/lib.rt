@@ -7,7 +7,7 @@ ghost use Rattle.std.specs.Prelude.{◌≡◌, ◌≤◌, ◌<◌, length, set};
 ghost use Rattle.state.specs.Steps.{InOrder, Closed, Started, Joinable, gathering, sizes_after, BeforeJoin, Joined, promoted, BeforeRemoval, Removed};
 ghost use Rattle.state.specs.Steps as Steps;
 
-#[derive(Drop)]
+#[derive(Clone, Copy)]
 pub struct State {
     // by active position: the component of the coordinate there, and its index among that component's members
     pub component: [u16; 512],

@@ -5,6 +5,8 @@
 ghost use Rattle.records.specs.Record.{instructions_of};
 ghost use Rattle.definition.specs.Walk.{start, walk_from};
 ghost use Rattle.walk.specs.Walking.{Walkable, WalkEnds};
+ghost use Rattle.state.specs.Steps.{BeforeJoin, Joined, promoted, BeforeRemoval, Removed};
+ghost use Rattle.std.specs.Prelude.{◌≡◌, ◌<◌};
 
 use outputs::buffers::{fill_ones, write_counts, write_members};
 use records::{Instruction, read};
@@ -26,6 +28,31 @@ pub struct Summary {
 pub enum Walked {
     Finished(Summary),
     Stopped { number: u64, index: u64 },
+}
+
+// Joins the sources in place. The state's steps take it and give it back by value; each stands in a function of its own, so that
+// the copies of one lie where those of the others do, and the stack of the walk has them once.
+fn join_state(state: &mut State, sources: &[u64])
+    requires { BeforeJoin state.old sources.now }
+    ensures { Joined state.old sources.now state.new }
+{
+    *state = state.join(sources);
+}
+
+// Promotes in place.
+fn promote_state(state: &mut State)
+    requires { (state.old.width < 512) × (state.old.count < 512) }
+    ensures { state.new ≡ promoted state.old }
+{
+    *state = state.promote();
+}
+
+// Removes in place what stands at a position.
+fn remove_state(state: &mut State, pivot: usize)
+    requires { BeforeRemoval state.old pivot }
+    ensures { Removed state.old pivot state.new }
+{
+    *state = state.remove(pivot);
 }
 
 // Walks over the records, and writes every output but the zeros behind the used words.
@@ -75,7 +102,7 @@ pub fn walk(
         let count = join.count;
         if 1 < count {
             let end = offset + count;
-            state = state.join(&merges[offset..end]);
+            join_state(&mut state, &merges[offset..end]);
         }
         match instruction {
             Instruction::Rotation {
@@ -124,7 +151,7 @@ pub fn walk(
                 tally = promote(next, width, index, tally, steps, sizes, promotions);
                 let end = state.width;
                 append(&mut order, end, next);
-                state = state.promote();
+                promote_state(&mut state);
             }
             Instruction::Measurement {
                 width: _,
@@ -159,7 +186,7 @@ pub fn walk(
                 let next = after.tally;
                 tally = next;
                 let at = pivot as usize;
-                state = state.remove(at);
+                remove_state(&mut state, at);
                 let last = state.width;
                 close_gap(&mut order, at, last);
             }

@@ -90,8 +90,8 @@ offset_bounds-merges-offset c =
     let good = c.well_formed.1.1.1.1.0.1 in
     omega (arith, good)
 
-pub slice_bounds-join-end : goal.slice_bounds-join-end
-slice_bounds-join-end c =
+pub slice_bounds-join_state-end : goal.slice_bounds-join_state-end
+slice_bounds-join_state-end c =
     let turn-now : get_or (instructions_of c.args.records.now) c.loop-i.i DormantBranch ≡ c.read-instruction.result = let words = c.args.records.now in
     instruction_at words c.loop-i.i DormantBranch (omega (arith, c.loop-i-test.true, c.loop-i.invariant.count)) ∙ sym c.read-instruction.ensures in
     let counted : c.open-act.result.join.count ≡ length (sources c.loop-i.invariant c.loop-i-test.true c.read-instruction.result turn-now) = ap (λ j. j.count) c.open-act.ensures.1 ∙ (join_count c.loop-i.state.size (sources c.loop-i.invariant c.loop-i-test.true c.read-instruction.result turn-now)) in
@@ -113,8 +113,8 @@ slice_bounds-join-end c =
     let good = c.well_formed.1.1.1.1.0.1 in
     fits
 
-pub join-state-requires : goal.join-state-requires
-join-state-requires c =
+pub join_state-requires : goal.join_state-requires
+join_state-requires c =
     let turn-now : get_or (instructions_of c.args.records.now) c.loop-i.i DormantBranch ≡ c.read-instruction.result = let words = c.args.records.now in
     instruction_at words c.loop-i.i DormantBranch (omega (arith, c.loop-i-test.true, c.loop-i.invariant.count)) ∙ sym c.read-instruction.ensures in
     let counted : c.open-act.result.join.count ≡ length (sources c.loop-i.invariant c.loop-i-test.true c.read-instruction.result turn-now) = ap (λ j. j.count) c.open-act.ensures.1 ∙ (join_count c.loop-i.state.size (sources c.loop-i.invariant c.loop-i-test.true c.read-instruction.result turn-now)) in
@@ -173,12 +173,12 @@ loop-i-preserved-then-count-eq0 c =
     let met : Met c.loop-i.invariant c.loop-i-test.true c.read-instruction.result turn-now c.if-count-gt1.state = let count = counted in
     let s = c.loop-i.state in
     elim c.if-count-gt1.branch [
-        then-count-gt1 w ↦ inl (
-      (let h = w.if-count-gt1.true in omega arith),
-      subst (λ v. Joined s (sources c.loop-i.invariant c.loop-i-test.true c.read-instruction.result turn-now) v) (sym w.state-is)
-          (subst (λ l. Joined s l w.join-state.result) placed.1 w.join-state.ensures),
-    )
-        | else-count-gt1 w ↦ inr (w.state-is, (let h = w.if-count-gt1.false in omega arith))
+      | then-count-gt1 w ↦ inl (
+        (let h = w.if-count-gt1.true in omega arith),
+        subst (λ v. Joined s (sources c.loop-i.invariant c.loop-i-test.true c.read-instruction.result turn-now) v) (sym w.state-is)
+            (subst (λ l. Joined s l w.join_state.new.state) placed.1 w.join_state.ensures),
+      )
+      | else-count-gt1 w ↦ inr (w.state-is, (let h = w.if-count-gt1.false in omega arith))
     ] in
     let let_through : number_before c.loop-i.state.width c.read-instruction.result ≡ 0 = sym c.open-act.ensures.0 ∙ c.if-number-ne0.false in
     let inv = c.loop-i.invariant in
@@ -206,12 +206,12 @@ rotate-after-requires c =
     let met : Met c.loop-i.invariant c.loop-i-test.true c.read-instruction.result turn-now c.if-count-gt1.state = let count = counted in
     let s = c.loop-i.state in
     elim c.if-count-gt1.branch [
-        then-count-gt1 w ↦ inl (
-      (let h = w.if-count-gt1.true in omega arith),
-      subst (λ v. Joined s (sources c.loop-i.invariant c.loop-i-test.true c.read-instruction.result turn-now) v) (sym w.state-is)
-          (subst (λ l. Joined s l w.join-state.result) placed.1 w.join-state.ensures),
-    )
-        | else-count-gt1 w ↦ inr (w.state-is, (let h = w.if-count-gt1.false in omega arith))
+      | then-count-gt1 w ↦ inl (
+        (let h = w.if-count-gt1.true in omega arith),
+        subst (λ v. Joined s (sources c.loop-i.invariant c.loop-i-test.true c.read-instruction.result turn-now) v) (sym w.state-is)
+            (subst (λ l. Joined s l w.join_state.new.state) placed.1 w.join_state.ensures),
+      )
+      | else-count-gt1 w ↦ inr (w.state-is, (let h = w.if-count-gt1.false in omega arith))
     ] in
     let let_through : number_before c.loop-i.state.width c.read-instruction.result ≡ 0 = sym c.open-act.ensures.0 ∙ c.if-number-ne0.false in
     let inv = c.loop-i.invariant in
@@ -239,12 +239,12 @@ returns-then-number-ne0-2 c =
     let met : Met c.loop-i.invariant c.loop-i-test.true c.read-instruction.result turn-now c.if-count-gt1.state = let count = counted in
     let s = c.loop-i.state in
     elim c.if-count-gt1.branch [
-        then-count-gt1 w ↦ inl (
-      (let h = w.if-count-gt1.true in omega arith),
-      subst (λ v. Joined s (sources c.loop-i.invariant c.loop-i-test.true c.read-instruction.result turn-now) v) (sym w.state-is)
-          (subst (λ l. Joined s l w.join-state.result) placed.1 w.join-state.ensures),
-    )
-        | else-count-gt1 w ↦ inr (w.state-is, (let h = w.if-count-gt1.false in omega arith))
+      | then-count-gt1 w ↦ inl (
+        (let h = w.if-count-gt1.true in omega arith),
+        subst (λ v. Joined s (sources c.loop-i.invariant c.loop-i-test.true c.read-instruction.result turn-now) v) (sym w.state-is)
+            (subst (λ l. Joined s l w.join_state.new.state) placed.1 w.join_state.ensures),
+      )
+      | else-count-gt1 w ↦ inr (w.state-is, (let h = w.if-count-gt1.false in omega arith))
     ] in
     let let_through : number_before c.loop-i.state.width c.read-instruction.result ≡ 0 = sym c.open-act.ensures.0 ∙ c.if-number-ne0.false in
     let inv = c.loop-i.invariant in
@@ -277,12 +277,12 @@ loop-i-preserved-else-count-eq0 c =
     let met : Met c.loop-i.invariant c.loop-i-test.true c.read-instruction.result turn-now c.if-count-gt1.state = let count = counted in
     let s = c.loop-i.state in
     elim c.if-count-gt1.branch [
-        then-count-gt1 w ↦ inl (
-      (let h = w.if-count-gt1.true in omega arith),
-      subst (λ v. Joined s (sources c.loop-i.invariant c.loop-i-test.true c.read-instruction.result turn-now) v) (sym w.state-is)
-          (subst (λ l. Joined s l w.join-state.result) placed.1 w.join-state.ensures),
-    )
-        | else-count-gt1 w ↦ inr (w.state-is, (let h = w.if-count-gt1.false in omega arith))
+      | then-count-gt1 w ↦ inl (
+        (let h = w.if-count-gt1.true in omega arith),
+        subst (λ v. Joined s (sources c.loop-i.invariant c.loop-i-test.true c.read-instruction.result turn-now) v) (sym w.state-is)
+            (subst (λ l. Joined s l w.join_state.new.state) placed.1 w.join_state.ensures),
+      )
+      | else-count-gt1 w ↦ inr (w.state-is, (let h = w.if-count-gt1.false in omega arith))
     ] in
     let let_through : number_before c.loop-i.state.width c.read-instruction.result ≡ 0 = sym c.open-act.ensures.0 ∙ c.if-number-ne0.false in
     let inv = c.loop-i.invariant in
@@ -310,12 +310,12 @@ promote-tally-requires c =
     let met : Met c.loop-i.invariant c.loop-i-test.true c.read-instruction.result turn-now c.if-count-gt1.state = let count = counted in
     let s = c.loop-i.state in
     elim c.if-count-gt1.branch [
-        then-count-gt1 w ↦ inl (
-      (let h = w.if-count-gt1.true in omega arith),
-      subst (λ v. Joined s (sources c.loop-i.invariant c.loop-i-test.true c.read-instruction.result turn-now) v) (sym w.state-is)
-          (subst (λ l. Joined s l w.join-state.result) placed.1 w.join-state.ensures),
-    )
-        | else-count-gt1 w ↦ inr (w.state-is, (let h = w.if-count-gt1.false in omega arith))
+      | then-count-gt1 w ↦ inl (
+        (let h = w.if-count-gt1.true in omega arith),
+        subst (λ v. Joined s (sources c.loop-i.invariant c.loop-i-test.true c.read-instruction.result turn-now) v) (sym w.state-is)
+            (subst (λ l. Joined s l w.join_state.new.state) placed.1 w.join_state.ensures),
+      )
+      | else-count-gt1 w ↦ inr (w.state-is, (let h = w.if-count-gt1.false in omega arith))
     ] in
     let let_through : number_before c.loop-i.state.width c.read-instruction.result ≡ 0 = sym c.open-act.ensures.0 ∙ c.if-number-ne0.false in
     let inv = c.loop-i.invariant in
@@ -342,12 +342,12 @@ append-requires c =
     let met : Met c.loop-i.invariant c.loop-i-test.true c.read-instruction.result turn-now c.if-count-gt1.state = let count = counted in
     let s = c.loop-i.state in
     elim c.if-count-gt1.branch [
-        then-count-gt1 w ↦ inl (
-      (let h = w.if-count-gt1.true in omega arith),
-      subst (λ v. Joined s (sources c.loop-i.invariant c.loop-i-test.true c.read-instruction.result turn-now) v) (sym w.state-is)
-          (subst (λ l. Joined s l w.join-state.result) placed.1 w.join-state.ensures),
-    )
-        | else-count-gt1 w ↦ inr (w.state-is, (let h = w.if-count-gt1.false in omega arith))
+      | then-count-gt1 w ↦ inl (
+        (let h = w.if-count-gt1.true in omega arith),
+        subst (λ v. Joined s (sources c.loop-i.invariant c.loop-i-test.true c.read-instruction.result turn-now) v) (sym w.state-is)
+            (subst (λ l. Joined s l w.join_state.new.state) placed.1 w.join_state.ensures),
+      )
+      | else-count-gt1 w ↦ inr (w.state-is, (let h = w.if-count-gt1.false in omega arith))
     ] in
     let inv = c.loop-i.invariant in
     let more = c.loop-i-test.true in
@@ -356,8 +356,8 @@ append-requires c =
     let told = c.in-Promotion.is in
     promoted_asks inv more x now told c.if-count-gt1.state met
 
-pub promote-state-requires : goal.promote-state-requires
-promote-state-requires c =
+pub promote_state-requires : goal.promote_state-requires
+promote_state-requires c =
     let turn-now : get_or (instructions_of c.args.records.now) c.loop-i.i DormantBranch ≡ c.read-instruction.result = let words = c.args.records.now in
     instruction_at words c.loop-i.i DormantBranch (omega (arith, c.loop-i-test.true, c.loop-i.invariant.count)) ∙ sym c.read-instruction.ensures in
     let counted : c.open-act.result.join.count ≡ length (sources c.loop-i.invariant c.loop-i-test.true c.read-instruction.result turn-now) = ap (λ j. j.count) c.open-act.ensures.1 ∙ (join_count c.loop-i.state.size (sources c.loop-i.invariant c.loop-i-test.true c.read-instruction.result turn-now)) in
@@ -372,12 +372,12 @@ promote-state-requires c =
     let met : Met c.loop-i.invariant c.loop-i-test.true c.read-instruction.result turn-now c.if-count-gt1.state = let count = counted in
     let s = c.loop-i.state in
     elim c.if-count-gt1.branch [
-        then-count-gt1 w ↦ inl (
-      (let h = w.if-count-gt1.true in omega arith),
-      subst (λ v. Joined s (sources c.loop-i.invariant c.loop-i-test.true c.read-instruction.result turn-now) v) (sym w.state-is)
-          (subst (λ l. Joined s l w.join-state.result) placed.1 w.join-state.ensures),
-    )
-        | else-count-gt1 w ↦ inr (w.state-is, (let h = w.if-count-gt1.false in omega arith))
+      | then-count-gt1 w ↦ inl (
+        (let h = w.if-count-gt1.true in omega arith),
+        subst (λ v. Joined s (sources c.loop-i.invariant c.loop-i-test.true c.read-instruction.result turn-now) v) (sym w.state-is)
+            (subst (λ l. Joined s l w.join_state.new.state) placed.1 w.join_state.ensures),
+      )
+      | else-count-gt1 w ↦ inr (w.state-is, (let h = w.if-count-gt1.false in omega arith))
     ] in
     let let_through : number_before c.loop-i.state.width c.read-instruction.result ≡ 0 = sym c.open-act.ensures.0 ∙ c.if-number-ne0.false in
     let inv = c.loop-i.invariant in
@@ -409,12 +409,12 @@ loop-i-preserved-in-Promotion c =
     let met : Met c.loop-i.invariant c.loop-i-test.true c.read-instruction.result turn-now c.if-count-gt1.state = let count = counted in
     let s = c.loop-i.state in
     elim c.if-count-gt1.branch [
-        then-count-gt1 w ↦ inl (
-      (let h = w.if-count-gt1.true in omega arith),
-      subst (λ v. Joined s (sources c.loop-i.invariant c.loop-i-test.true c.read-instruction.result turn-now) v) (sym w.state-is)
-          (subst (λ l. Joined s l w.join-state.result) placed.1 w.join-state.ensures),
-    )
-        | else-count-gt1 w ↦ inr (w.state-is, (let h = w.if-count-gt1.false in omega arith))
+      | then-count-gt1 w ↦ inl (
+        (let h = w.if-count-gt1.true in omega arith),
+        subst (λ v. Joined s (sources c.loop-i.invariant c.loop-i-test.true c.read-instruction.result turn-now) v) (sym w.state-is)
+            (subst (λ l. Joined s l w.join_state.new.state) placed.1 w.join_state.ensures),
+      )
+      | else-count-gt1 w ↦ inr (w.state-is, (let h = w.if-count-gt1.false in omega arith))
     ] in
     let let_through : number_before c.loop-i.state.width c.read-instruction.result ≡ 0 = sym c.open-act.ensures.0 ∙ c.if-number-ne0.false in
     let inv = c.loop-i.invariant in
@@ -423,7 +423,7 @@ loop-i-preserved-in-Promotion c =
     let now = turn-now in
     let through = let_through in
     let told = c.in-Promotion.is in
-    promote_goes inv more x now told c.if-count-gt1.state met c.promote-tally.result _ c.promote-state.result c.append.new.order c.promote-tally.ensures c.promote-state.ensures c.append.ensures c.open-act.ensures.2 refl refl (record { steps = c.promote-tally.auto.steps ∙ inv.long.steps; merges = c.open-act.auto.merges ∙ inv.long.merges; sizes = c.promote-tally.auto.sizes ∙ inv.long.sizes; rotations = inv.long.rotations; promotions = c.promote-tally.auto.promotions ∙ inv.long.promotions; measurements = inv.long.measurements; groups = inv.long.groups })
+    promote_goes inv more x now told c.if-count-gt1.state met c.promote-tally.result _ c.promote_state.new.state c.append.new.order c.promote-tally.ensures c.promote_state.ensures c.append.ensures c.open-act.ensures.2 refl refl (record { steps = c.promote-tally.auto.steps ∙ inv.long.steps; merges = c.open-act.auto.merges ∙ inv.long.merges; sizes = c.promote-tally.auto.sizes ∙ inv.long.sizes; rotations = inv.long.rotations; promotions = c.promote-tally.auto.promotions ∙ inv.long.promotions; measurements = inv.long.measurements; groups = inv.long.groups })
 
 pub measure-after-requires : goal.measure-after-requires
 measure-after-requires c =
@@ -441,12 +441,12 @@ measure-after-requires c =
     let met : Met c.loop-i.invariant c.loop-i-test.true c.read-instruction.result turn-now c.if-count-gt1.state = let count = counted in
     let s = c.loop-i.state in
     elim c.if-count-gt1.branch [
-        then-count-gt1 w ↦ inl (
-      (let h = w.if-count-gt1.true in omega arith),
-      subst (λ v. Joined s (sources c.loop-i.invariant c.loop-i-test.true c.read-instruction.result turn-now) v) (sym w.state-is)
-          (subst (λ l. Joined s l w.join-state.result) placed.1 w.join-state.ensures),
-    )
-        | else-count-gt1 w ↦ inr (w.state-is, (let h = w.if-count-gt1.false in omega arith))
+      | then-count-gt1 w ↦ inl (
+        (let h = w.if-count-gt1.true in omega arith),
+        subst (λ v. Joined s (sources c.loop-i.invariant c.loop-i-test.true c.read-instruction.result turn-now) v) (sym w.state-is)
+            (subst (λ l. Joined s l w.join_state.new.state) placed.1 w.join_state.ensures),
+      )
+      | else-count-gt1 w ↦ inr (w.state-is, (let h = w.if-count-gt1.false in omega arith))
     ] in
     let let_through : number_before c.loop-i.state.width c.read-instruction.result ≡ 0 = sym c.open-act.ensures.0 ∙ c.if-number-ne0.false in
     let inv = c.loop-i.invariant in
@@ -473,12 +473,12 @@ returns-then-number-ne0-3 c =
     let met : Met c.loop-i.invariant c.loop-i-test.true c.read-instruction.result turn-now c.if-count-gt1.state = let count = counted in
     let s = c.loop-i.state in
     elim c.if-count-gt1.branch [
-        then-count-gt1 w ↦ inl (
-      (let h = w.if-count-gt1.true in omega arith),
-      subst (λ v. Joined s (sources c.loop-i.invariant c.loop-i-test.true c.read-instruction.result turn-now) v) (sym w.state-is)
-          (subst (λ l. Joined s l w.join-state.result) placed.1 w.join-state.ensures),
-    )
-        | else-count-gt1 w ↦ inr (w.state-is, (let h = w.if-count-gt1.false in omega arith))
+      | then-count-gt1 w ↦ inl (
+        (let h = w.if-count-gt1.true in omega arith),
+        subst (λ v. Joined s (sources c.loop-i.invariant c.loop-i-test.true c.read-instruction.result turn-now) v) (sym w.state-is)
+            (subst (λ l. Joined s l w.join_state.new.state) placed.1 w.join_state.ensures),
+      )
+      | else-count-gt1 w ↦ inr (w.state-is, (let h = w.if-count-gt1.false in omega arith))
     ] in
     let let_through : number_before c.loop-i.state.width c.read-instruction.result ≡ 0 = sym c.open-act.ensures.0 ∙ c.if-number-ne0.false in
     let inv = c.loop-i.invariant in
@@ -489,8 +489,8 @@ returns-then-number-ne0-3 c =
     let told = c.in-Measurement.is in
     measure_stops inv more x now _ _ _ _ _ told through c.if-count-gt1.state met c.open-act.result.join c.open-act.ensures.1 c.measure-after.result.number _ _ c.measure-after.ensures c.if-number-ne0-3.true
 
-pub remove-state-requires : goal.remove-state-requires
-remove-state-requires c =
+pub remove_state-requires : goal.remove_state-requires
+remove_state-requires c =
     let turn-now : get_or (instructions_of c.args.records.now) c.loop-i.i DormantBranch ≡ c.read-instruction.result = let words = c.args.records.now in
     instruction_at words c.loop-i.i DormantBranch (omega (arith, c.loop-i-test.true, c.loop-i.invariant.count)) ∙ sym c.read-instruction.ensures in
     let counted : c.open-act.result.join.count ≡ length (sources c.loop-i.invariant c.loop-i-test.true c.read-instruction.result turn-now) = ap (λ j. j.count) c.open-act.ensures.1 ∙ (join_count c.loop-i.state.size (sources c.loop-i.invariant c.loop-i-test.true c.read-instruction.result turn-now)) in
@@ -505,12 +505,12 @@ remove-state-requires c =
     let met : Met c.loop-i.invariant c.loop-i-test.true c.read-instruction.result turn-now c.if-count-gt1.state = let count = counted in
     let s = c.loop-i.state in
     elim c.if-count-gt1.branch [
-        then-count-gt1 w ↦ inl (
-      (let h = w.if-count-gt1.true in omega arith),
-      subst (λ v. Joined s (sources c.loop-i.invariant c.loop-i-test.true c.read-instruction.result turn-now) v) (sym w.state-is)
-          (subst (λ l. Joined s l w.join-state.result) placed.1 w.join-state.ensures),
-    )
-        | else-count-gt1 w ↦ inr (w.state-is, (let h = w.if-count-gt1.false in omega arith))
+      | then-count-gt1 w ↦ inl (
+        (let h = w.if-count-gt1.true in omega arith),
+        subst (λ v. Joined s (sources c.loop-i.invariant c.loop-i-test.true c.read-instruction.result turn-now) v) (sym w.state-is)
+            (subst (λ l. Joined s l w.join_state.new.state) placed.1 w.join_state.ensures),
+      )
+      | else-count-gt1 w ↦ inr (w.state-is, (let h = w.if-count-gt1.false in omega arith))
     ] in
     let let_through : number_before c.loop-i.state.width c.read-instruction.result ≡ 0 = sym c.open-act.ensures.0 ∙ c.if-number-ne0.false in
     let inv = c.loop-i.invariant in
@@ -537,12 +537,12 @@ close_gap-requires c =
     let met : Met c.loop-i.invariant c.loop-i-test.true c.read-instruction.result turn-now c.if-count-gt1.state = let count = counted in
     let s = c.loop-i.state in
     elim c.if-count-gt1.branch [
-        then-count-gt1 w ↦ inl (
-      (let h = w.if-count-gt1.true in omega arith),
-      subst (λ v. Joined s (sources c.loop-i.invariant c.loop-i-test.true c.read-instruction.result turn-now) v) (sym w.state-is)
-          (subst (λ l. Joined s l w.join-state.result) placed.1 w.join-state.ensures),
-    )
-        | else-count-gt1 w ↦ inr (w.state-is, (let h = w.if-count-gt1.false in omega arith))
+      | then-count-gt1 w ↦ inl (
+        (let h = w.if-count-gt1.true in omega arith),
+        subst (λ v. Joined s (sources c.loop-i.invariant c.loop-i-test.true c.read-instruction.result turn-now) v) (sym w.state-is)
+            (subst (λ l. Joined s l w.join_state.new.state) placed.1 w.join_state.ensures),
+      )
+      | else-count-gt1 w ↦ inr (w.state-is, (let h = w.if-count-gt1.false in omega arith))
     ] in
     let let_through : number_before c.loop-i.state.width c.read-instruction.result ≡ 0 = sym c.open-act.ensures.0 ∙ c.if-number-ne0.false in
     let inv = c.loop-i.invariant in
@@ -551,7 +551,7 @@ close_gap-requires c =
     let now = turn-now in
     let through = let_through in
     let told = c.in-Measurement.is in
-    gap_fits inv more x now _ _ _ _ _ told through c.if-count-gt1.state met c.open-act.result.join c.open-act.ensures.1 c.remove-state.result c.remove-state.ensures
+    gap_fits inv more x now _ _ _ _ _ told through c.if-count-gt1.state met c.open-act.result.join c.open-act.ensures.1 c.remove_state.new.state c.remove_state.ensures
     (remove_asks inv more x now _ _ _ _ _ told through c.if-count-gt1.state met c.open-act.result.join c.open-act.ensures.1 c.measure-after.result.number _ c.measure-after.ensures c.if-number-ne0-3.false)
 
 pub loop-i-smaller-in-Measurement : goal.loop-i-smaller-in-Measurement
@@ -575,12 +575,12 @@ loop-i-preserved-in-Measurement c =
     let met : Met c.loop-i.invariant c.loop-i-test.true c.read-instruction.result turn-now c.if-count-gt1.state = let count = counted in
     let s = c.loop-i.state in
     elim c.if-count-gt1.branch [
-        then-count-gt1 w ↦ inl (
-      (let h = w.if-count-gt1.true in omega arith),
-      subst (λ v. Joined s (sources c.loop-i.invariant c.loop-i-test.true c.read-instruction.result turn-now) v) (sym w.state-is)
-          (subst (λ l. Joined s l w.join-state.result) placed.1 w.join-state.ensures),
-    )
-        | else-count-gt1 w ↦ inr (w.state-is, (let h = w.if-count-gt1.false in omega arith))
+      | then-count-gt1 w ↦ inl (
+        (let h = w.if-count-gt1.true in omega arith),
+        subst (λ v. Joined s (sources c.loop-i.invariant c.loop-i-test.true c.read-instruction.result turn-now) v) (sym w.state-is)
+            (subst (λ l. Joined s l w.join_state.new.state) placed.1 w.join_state.ensures),
+      )
+      | else-count-gt1 w ↦ inr (w.state-is, (let h = w.if-count-gt1.false in omega arith))
     ] in
     let let_through : number_before c.loop-i.state.width c.read-instruction.result ≡ 0 = sym c.open-act.ensures.0 ∙ c.if-number-ne0.false in
     let inv = c.loop-i.invariant in
@@ -589,7 +589,7 @@ loop-i-preserved-in-Measurement c =
     let now = turn-now in
     let through = let_through in
     let told = c.in-Measurement.is in
-    measure_goes inv more x now _ _ _ _ _ told through c.if-count-gt1.state met c.open-act.result.join c.open-act.ensures.1 c.measure-after.result.number c.measure-after.result.tally _ c.remove-state.result c.close_gap.new.order c.measure-after.ensures c.if-number-ne0-3.false c.remove-state.ensures c.close_gap.ensures c.open-act.ensures.2 refl refl (record { steps = c.measure-after.auto.steps ∙ inv.long.steps; merges = c.open-act.auto.merges ∙ inv.long.merges; sizes = c.measure-after.auto.sizes ∙ inv.long.sizes; rotations = inv.long.rotations; promotions = inv.long.promotions; measurements = c.measure-after.auto.measurements ∙ inv.long.measurements; groups = inv.long.groups })
+    measure_goes inv more x now _ _ _ _ _ told through c.if-count-gt1.state met c.open-act.result.join c.open-act.ensures.1 c.measure-after.result.number c.measure-after.result.tally _ c.remove_state.new.state c.close_gap.new.order c.measure-after.ensures c.if-number-ne0-3.false c.remove_state.ensures c.close_gap.ensures c.open-act.ensures.2 refl refl (record { steps = c.measure-after.auto.steps ∙ inv.long.steps; merges = c.open-act.auto.merges ∙ inv.long.merges; sizes = c.measure-after.auto.sizes ∙ inv.long.sizes; rotations = inv.long.rotations; promotions = inv.long.promotions; measurements = c.measure-after.auto.measurements ∙ inv.long.measurements; groups = inv.long.groups })
 
 pub put_step-requires-in_default : goal.put_step-requires-in_default
 put_step-requires-in_default c =
@@ -622,12 +622,12 @@ loop-i-preserved c =
     let met : Met c.loop-i.invariant c.loop-i-test.true c.read-instruction.result turn-now c.if-count-gt1.state = let count = counted in
     let s = c.loop-i.state in
     elim c.if-count-gt1.branch [
-        then-count-gt1 w ↦ inl (
-      (let h = w.if-count-gt1.true in omega arith),
-      subst (λ v. Joined s (sources c.loop-i.invariant c.loop-i-test.true c.read-instruction.result turn-now) v) (sym w.state-is)
-          (subst (λ l. Joined s l w.join-state.result) placed.1 w.join-state.ensures),
-    )
-        | else-count-gt1 w ↦ inr (w.state-is, (let h = w.if-count-gt1.false in omega arith))
+      | then-count-gt1 w ↦ inl (
+        (let h = w.if-count-gt1.true in omega arith),
+        subst (λ v. Joined s (sources c.loop-i.invariant c.loop-i-test.true c.read-instruction.result turn-now) v) (sym w.state-is)
+            (subst (λ l. Joined s l w.join_state.new.state) placed.1 w.join_state.ensures),
+      )
+      | else-count-gt1 w ↦ inr (w.state-is, (let h = w.if-count-gt1.false in omega arith))
     ] in
     let let_through : number_before c.loop-i.state.width c.read-instruction.result ≡ 0 = sym c.open-act.ensures.0 ∙ c.if-number-ne0.false in
     let inv = c.loop-i.invariant in
