@@ -40,6 +40,11 @@ leading_below x p h = let t = leading_top 64 x p h in omega (arith, t.1)
 pub bit_past : (d x p : ℕ) → x < 2 ^ d → d ≤ p → bit_at x p ≡ 0
 bit_past d x p h l = ap (λ (y : ℕ). y % 2) (div-eq_of_lt (lt_of_lt_of_le h (pow_mono l)))
 
+-- a word has no bit from place 64 on
+pub no_bit_from : (x p : ℕ) → x < 2 ^ 64 → 64 ≤ p → x / 2 ^ p % 2 ≡ 0
+unfolding bit_at
+no_bit_from x p h l = bit_past 64 x p h l
+
 -- a bit that is set is at a place below the word's width, and its power is at most the word
 pub bit_below : (d x p : ℕ) → x < 2 ^ d → (bit_at x p ≡ 0 → ⊥) → p < d
 bit_below d x p h set = lt_of_not-le (λ (l : d ≤ p). set (bit_past d x p h l))

@@ -17,6 +17,7 @@ pub fn is_odd_popcount(value: u64) -> bool
 }
 
 // The place of the highest set bit of a word, and 0 for the word 0.
+#[tactic(auto, unfolding(crate::specs::Bits::highest_bit))]
 pub fn highest_set_bit(value: u64) -> u64
     ensures { result ≡ highest_bit value }
 {
@@ -27,6 +28,7 @@ pub fn highest_set_bit(value: u64) -> u64
 }
 
 // The bit of a word at a place, 0 or 1, and 0 past the word's end.
+#[tactic(auto, using(crate::proofs::Laws::no_bit_from))]
 pub fn bit_at(value: u64, place: u64) -> u64
     ensures { result ≡ bit_at value place }
 {
@@ -57,6 +59,7 @@ pub fn exact_exp2(k: u64) -> f64
 }
 
 // The number of amplitudes of k coordinates: 2 to the k below the limit, where a word holds it.
+#[tactic(auto, unfolding(crate::specs::Bits::dimension))]
 pub fn active_length(k: u64, limit: u64) -> ActiveLength
     ensures { dimension_of result ≡ dimension limit k }
 {

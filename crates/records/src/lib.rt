@@ -137,6 +137,7 @@ fn within_one(x: f64) -> bool
 }
 
 // Refusal 6 or 7 of record i's width and phase, or 0.
+#[tactic(auto, unfolding(crate::specs::Pass::action_number))]
 fn check_action(words: &[u64], i: usize) -> u64
     ensures { result ≡ action_number (record_at words.now i) }
 {
@@ -164,6 +165,7 @@ fn check_floats(words: &[u64], i: usize) -> u64
 }
 
 // The refusal of record i, where its kind is a rotation's, or 0.
+#[tactic(auto, unfolding(crate::specs::Pass::rotation_number, crate::specs::Pass::or_else))]
 fn check_rotation(words: &[u64], i: usize) -> u64
     ensures { result ≡ rotation_number (record_at words.now i) }
 {
@@ -176,6 +178,7 @@ fn check_rotation(words: &[u64], i: usize) -> u64
 }
 
 // The refusal of record i, where its kind is a measurement's, or 0.
+#[tactic(auto, unfolding(crate::specs::Pass::measurement_number))]
 fn check_measurement(words: &[u64], i: usize) -> u64
     ensures { result ≡ measurement_number (record_at words.now i) }
 {
@@ -188,6 +191,7 @@ fn check_measurement(words: &[u64], i: usize) -> u64
 }
 
 // The refusal of record i after so many coordinates, or 0.
+#[tactic(auto, unfolding(crate::specs::Pass::number_of, crate::specs::Pass::promotion_number))]
 fn check_record(words: &[u64], i: usize, coordinates: u64) -> u64
     ensures { result ≡ number_of coordinates (record_at words.now i) }
 {
