@@ -9,19 +9,8 @@ use native.Mathlib.Omega.{arith}
 use Rattle.definition.specs.Lists.{numbers_from}
 use Rattle.file_words.specs.Words.{word_at}
 use Rattle.stored_plan.specs.Reading.{touch}
-use Rattle.stored_plan.proofs.Touching.{turn_misplaced, turn_past, turn_touches}
+use Rattle.stored_plan.proofs.Touching.{turn_past, turn_touches}
 use Rattle.stored_plan.proofs.sections_touch.Goals as goal
-
-pub loop-s-init : goal.loop-s-init
-loop-s-init c = (search rules, search rules, refl)
-
-pub returns-then-start-at : goal.returns-then-start-at
-returns-then-start-at c =
-    let word : ℕ → ℕ = λ i. word_at c.args.file.now (c.args.trailer + i) in
-    let s = c.loop-s.s in
-    let at = c.loop-s.at in
-    let read = c.word_at-start.ensures in
-    sym (c.loop-s.invariant.2 ∙ turn_misplaced word at c.args.trailer s (omega arith) (λ e. c.if-start-at.true (read ∙ e)))
 
 pub returns-then-trailer-at : goal.returns-then-trailer-at
 returns-then-trailer-at c =
@@ -38,7 +27,7 @@ loop-s-preserved c =
     let word : ℕ → ℕ = λ i. word_at c.args.file.now (c.args.trailer + i) in
     let s = c.loop-s.s in
     let at = c.loop-s.at in
-    let first = sym c.word_at-start.ensures ∙ c.if-start-at.false in
+    let first : word (2 * s) ≡ at = omega arith in
     let read : c.word_at-count.result ≡ word (2 * s + 1) =
     c.word_at-count.ensures ∙ ap (λ (k : ℕ). word_at c.args.file.now k) (add_assoc c.args.trailer (2 * s) 1) in
     let inside = c.if-trailer-at.false in (
