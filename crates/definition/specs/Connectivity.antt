@@ -87,7 +87,7 @@ pub data Linked (links : List (List ℕ)) : ℕ → ℕ → Type 0 where
 
 -- ---- live dimensions, from the instructions
 
--- a number for each coordinate such that linked ones have the same (`Classes.class-linked`): a support gives all its classes that of its first entry
+-- a number for each coordinate such that linked ones have the same (`Classes.class_linked`): a support gives all its classes that of its first entry
 abbrev pub merged : (ℕ → ℕ) → List ℕ → ℕ → ℕ
 merged f [] c = f c
 merged f (a ∷ s) c = cond (is_in (f c) (map f (a ∷ s))) (f a) (f c)

@@ -31,7 +31,7 @@ pub data Ascending : List ℕ → Type 0 where
   none : Ascending []
   more : {a : ℕ} {xs : List ℕ} → ((b : ℕ) → Member b xs → a < b) → Ascending xs → Ascending (a ∷ xs)
 
--- "after the target stand all other touched components, each once, strictly ascending, and nothing else". `Sources.sources-unique`: one list only is that
+-- "after the target stand all other touched components, each once, strictly ascending, and nothing else". `Sources.sources_unique`: one list only is that
 pub record Sources (order : List ℕ) (components : Replayed) (x z : ℕ) (listed : List ℕ) : Type 0 where
   pub target : ℕ
   pub others : List ℕ

@@ -188,6 +188,6 @@ planned_back h ws before after r answers read i below =
           (instruction_floats ws i below) (omega arith) (run_rotations front (start_wide k 21).0) (run_measurements front (start_wide k 19).1),
     )
 
--- and the part that the offset and the count of a join's row give is the row's list, of which `Demand.call-sources` tells what stands in it
+-- and the part that the offset and the count of a join's row give is the row's list, of which `Demand.call_sources` tells what stands in it
 pub listed_part : (p : Plan) (m kind : ℕ) (row order : List ℕ) (x z : ℕ) → Listed p m kind row order x z → part_of p.merges (get_or row 1 0) (get_or row 2 0) ≡ listed_by p row
 listed_part p m kind row order x z c = part_there p.merges (get_or row 1 0) (get_or row 2 0) c.inside

@@ -295,9 +295,9 @@ module _ {limit k : ℕ} {ws : List ℕ} {n i : ℕ} {o : List ℕ} {s : State} 
           ap (sources_before s.width (sources_at s.component s.size s.width)) told
           ∙ T.rotation_sources limit k ws b lo.ok i next lo.w s t c lo.at lo.long width a z phase angle sine cosine rotation_wide rotation_active rotation_small
 
-      module _ (u : State) (m : Met u) (jn : Joining) (Made-so : jn ≡ join_before s.size sources) where
+      module _ (u : State) (m : Met u) (jn : Joining) (made_so : jn ≡ join_before s.size sources) where
         pub rotate_asks : JoinedFits u.place a z s.width i jn t c.steps c.sizes
-        rotate_asks = asks a z rotation_active rotation_small rotation_joined u m jn Made-so
+        rotate_asks = asks a z rotation_active rotation_small rotation_joined u m jn made_so
 
         stands : Represents u lo.w.order (join_of a z lo.w).components
         stands = met a z rotation_active rotation_small rotation_joined u m
@@ -309,7 +309,7 @@ module _ {limit k : ℕ} {ws : List ℕ} {n i : ℕ} {o : List ℕ} {s : State} 
         turned = rotation_answer limit u.place a z phase angle sine cosine s.width jn.size
 
         answer_same : turned ≡ rotation_answer limit u.place a z phase angle sine cosine s.width (joining_of s.size (join_of a z lo.w).sources).size
-        answer_same = ap (λ (q : Joining). rotation_answer limit u.place a z phase angle sine cosine s.width q.size) (join_is a z rotation_active rotation_small rotation_joined jn Made-so)
+        answer_same = ap (λ (q : Joining). rotation_answer limit u.place a z phase angle sine cosine s.width q.size) (join_is a z rotation_active rotation_small rotation_joined jn made_so)
 
         pub rotate_stops : (number : ℕ) (done : PrecomputedActivePauliRotationKernel → Type 0) (after : Buffers) → Settled turned number done → (number ≡ 0 → ⊥)
             → WalkEnds (walk_from limit 0 (start k) (instructions_of ws)) (W.Stopped number i) after
@@ -324,7 +324,7 @@ module _ {limit k : ℕ} {ws : List ℕ} {n i : ℕ} {o : List ℕ} {s : State} 
         unfolding rotation_step
         rotate_goes number t' c' settled f merges promotions measurements long =
             let went = settled_goes turned number _ settled f (rotation_numbered limit _ phase angle sine cosine) in
-            let same = join_is a z rotation_active rotation_small rotation_joined jn Made-so in
+            let same = join_is a z rotation_active rotation_small rotation_joined jn made_so in
             on (rotation_step lo.w (join_of a z lo.w) went.0)
             (T.rotation_goes limit k ws b lo.ok i next lo.w s t c lo.at lo.long a z rotation_active rotation_small u stands width phase angle sine cosine rotation_now rotation_wide went.0 t' c'
             (sym answer_same ∙ went.1)
@@ -351,9 +351,9 @@ module _ {limit k : ℕ} {ws : List ℕ} {n i : ℕ} {o : List ℕ} {s : State} 
         ap (sources_before s.width (sources_at s.component s.size s.width)) told
         ∙ T.measurement_sources limit k ws b lo.ok i next lo.w s t c lo.at lo.long width a z phase pivot passed.0 passed.1 measurement_small
 
-    module _ (u : State) (m : Met u) (jn : Joining) (Made-so : jn ≡ join_before s.size sources) where
+    module _ (u : State) (m : Met u) (jn : Joining) (made_so : jn ≡ join_before s.size sources) where
       pub measure_asks : JoinedFits u.place a z s.width i jn t c.steps c.sizes
-      measure_asks = asks a z passed.1 measurement_small measurement_joined u m jn Made-so
+      measure_asks = asks a z passed.1 measurement_small measurement_joined u m jn made_so
 
       stands_so : Represents u lo.w.order (join_of a z lo.w).components
       stands_so = met a z passed.1 measurement_small measurement_joined u m
@@ -365,7 +365,7 @@ module _ {limit k : ℕ} {ws : List ℕ} {n i : ℕ} {o : List ℕ} {s : State} 
       found = measurement_answer limit u.component u.place a z phase pivot s.width jn
 
       found_same : found ≡ measurement_answer limit u.component u.place a z phase pivot s.width (joining_of s.size (join_of a z lo.w).sources)
-      found_same = ap (measurement_answer limit u.component u.place a z phase pivot s.width) (join_is a z passed.1 measurement_small measurement_joined jn Made-so)
+      found_same = ap (measurement_answer limit u.component u.place a z phase pivot s.width) (join_is a z passed.1 measurement_small measurement_joined jn made_so)
 
       pub measure_stops : (number : ℕ) (done : PrecomputedActivePauliMeasurementKernel → Type 0) (after : Buffers) → Settled found number done → (number ≡ 0 → ⊥)
           → WalkEnds (walk_from limit 0 (start k) (instructions_of ws)) (W.Stopped number i) after
@@ -398,7 +398,7 @@ module _ {limit k : ℕ} {ws : List ℕ} {n i : ℕ} {o : List ℕ} {s : State} 
       unfolding measurement_step
       measure_goes number t' c' v o' settled f removed closed merges promotions rotations long =
           let went = settled_goes found number _ settled f (answer_numbered limit u.component u.place a z phase pivot s.width jn) in
-          let same = join_is a z passed.1 measurement_small measurement_joined jn Made-so in
+          let same = join_is a z passed.1 measurement_small measurement_joined jn made_so in
           on (measurement_step lo.w (join_of a z lo.w) pivot went.0)
           (T.measurement_goes limit k ws b lo.ok i next lo.w s t c lo.at lo.long a z passed.1 measurement_small u stands_so width phase pivot measurement_now passed.0 went.0
           (sym found_same ∙ went.1) v t' c' removed

@@ -68,7 +68,7 @@ pub fn walk(
     measurements: &mut [u64],
     groups: &mut [u64],
 ) -> Walked
-    requires { Walkable initial_k records.now (record { steps = steps.now; merges = merges.old; sizes = sizes.old; rotations = rotations.old; promotions = promotions.old; measurements = measurements.old; groups = groups.old }) }
+    requires { Walkable initial_k records.now (record { steps = steps.old; merges = merges.old; sizes = sizes.old; rotations = rotations.old; promotions = promotions.old; measurements = measurements.old; groups = groups.old }) }
     ensures { WalkEnds (walk_from limit 0 (start initial_k) (instructions_of records.now)) result (record { steps = steps.new; merges = merges.new; sizes = sizes.new; rotations = rotations.new; promotions = promotions.new; measurements = measurements.new; groups = groups.new }) }
 {
     let mut order = first_order(initial_k);
