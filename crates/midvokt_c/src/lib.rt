@@ -5,8 +5,8 @@
 ghost use Rattle.midvokt.specs.Reply.{Replies};
 ghost use Rattle.midvokt.specs.Stored.{StoreReplies, LoadReplies};
 
-use midvokt::midvokt_plan as plan;
-use midvokt::stored::{midvokt_load as load, midvokt_store as store};
+use midvokt::midvokt_plan as plan_call;
+use midvokt::stored::{midvokt_load as load_call, midvokt_store as store_call};
 
 // Plans a program into the seven buffers and the result; 0, or the refusal's number.
 #[unsafe(no_mangle)]
@@ -27,7 +27,7 @@ pub extern "C" fn midvokt_plan(
 ) -> u64
     ensures { Replies (record { initial_k = initial_k; max_k = max_k; nexpvals = nexpvals; ceiling = ceiling }) records.now (record { steps = steps.old; merges = merges.old; sizes = sizes.old; rotations = rotations.old; promotions = promotions.old; measurements = measurements.old; groups = groups.old }) (record { steps = steps.new; merges = merges.new; sizes = sizes.new; rotations = rotations.new; promotions = promotions.new; measurements = measurements.new; groups = groups.new }) res.old res.new result }
 {
-    plan(
+    plan_call(
         initial_k,
         max_k,
         nexpvals,
@@ -64,7 +64,7 @@ pub extern "C" fn midvokt_store(
 ) -> u64
     ensures { StoreReplies (record { initial_k = initial_k; max_k = max_k; nexpvals = nexpvals; ceiling = ceiling }) records.now (record { steps = steps.old; merges = merges.old; sizes = sizes.old; rotations = rotations.old; promotions = promotions.old; measurements = measurements.old; groups = groups.old }) (record { steps = steps.new; merges = merges.new; sizes = sizes.new; rotations = rotations.new; promotions = promotions.new; measurements = measurements.new; groups = groups.new }) file.old file.new res.old res.new result }
 {
-    store(
+    store_call(
         initial_k,
         max_k,
         nexpvals,
@@ -96,7 +96,7 @@ pub extern "C" fn midvokt_load(
 ) -> u64
     ensures { LoadReplies file.now (record { steps = steps.old; merges = merges.old; sizes = sizes.old; rotations = rotations.old; promotions = promotions.old; measurements = measurements.old }) (record { steps = steps.new; merges = merges.new; sizes = sizes.new; rotations = rotations.new; promotions = promotions.new; measurements = measurements.new }) res.old res.new result }
 {
-    load(
+    load_call(
         file,
         steps,
         merges,
