@@ -71,7 +71,7 @@ extern "C" {
 #endif
 
 /* The project's version. */
-#define MIDVOKT_VERSION "0.5.0"
+#define MIDVOKT_VERSION "0.5.1"
 
 /* Bytes of stack that each call needs, whatever its arguments. At its worst a call was measured
  * to use 14,024 of them on x86-64: 10,856 of its own, and 3,168 where the system looks up
