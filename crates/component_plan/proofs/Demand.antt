@@ -21,7 +21,7 @@ use Rattle.definition.proofs.WholeWorks.{works_agree, too_wide_exactly}
 use Rattle.definition.proofs.Under.{plan_dimensions, dimensions_padded, same_plan}
 use Rattle.tally.specs.Tally.{works_of}
 use Rattle.outputs.specs.declared.WordCounts.{WordCounts}
-use Rattle.walk.specs.Walking.{Buffers, lengths_of}
+use Rattle.outputs.specs.Outputs.{Buffers, lengths_of}
 use Rattle.answer.specs.declared.ActiveComponentPlan.{ActiveComponentPlan}
 use Rattle.answer.specs.declared.Planned.{Planned}
 use Rattle.answer.specs.declared.Planned.TheVariants as P

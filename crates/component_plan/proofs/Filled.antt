@@ -21,7 +21,8 @@ use Rattle.definition.proofs.Growth.{run_rotations, run_measurements, start_wide
 use Rattle.definition.proofs.WholeWorks.{reached_exactly}
 use Rattle.definition.proofs.Room.{longest_count, steps_count, rows_most}
 use Rattle.walk.specs.declared.Summary.{Summary}
-use Rattle.walk.specs.Walking.{Buffers, Begins, Ended, SameLengths}
+use Rattle.outputs.specs.Outputs.{Buffers, SameLengths}
+use Rattle.walk.specs.Walking.{Begins, Ended}
 use Rattle.lent.specs.Lent.{Held, RestCleared, UsedFit, cleared_from}
 use Rattle.outputs.specs.declared.WordCounts.{WordCounts}
 use Rattle.answer.specs.Outcome.{used_in}

@@ -1,10 +1,10 @@
 -- How the answers of the parts make the answer of the whole: the definition's result is its first refusal, whose tests the number of `lent_number` tells, or what
 -- the record pass and the walk give, and a refusal or a plan that read nothing leaves zeros.
+use Rattle.std.specs.Prelude.{Option, Some, None}
 use Prim.Native.Nat.{ℕ, ◌/◌, ◌%◌, ◌<◌, ◌≤◌}
 use native.Mathlib.Omega.{arith}
 use mathlib.Core.Path.{◌≡◌, refl, sym, ap, ap₂, ◌∙◌, subst}
 use mathlib.Core.Bool.{Bool, true, false, cond, not, ◌||◌}
-use mathlib.Core.Option.{Option, some, none}
 use mathlib.Core.List.{List}
 use lib.Dec.{eqb, ltb}
 use lib.ListN.{length}
@@ -12,10 +12,9 @@ use lib.IntN.{pos}
 use lib.Ieee.{fin}
 use borrow.Author.Tests.{ltb-false, lt-ltb, le-ltb, eq-eqb, ne_eqb}
 use Rattle.kernels.specs.Bits.{dimension}
-use Rattle.kernels.specs.Active.{Answer, given, refused}
-use Rattle.records.specs.Pass.{record_pass}
+use Rattle.refusals.specs.Answer.{Answer, given, refused}
+use Rattle.records.specs.Pass.{Checked, record_pass}
 use Rattle.records.specs.declared.Head.{Head}
-use Rattle.records.specs.declared.Checked.{Checked}
 use Rattle.definition.specs.Components.{allocated_for}
 use Rattle.definition.specs.WholeWorks.{WholeWorks, whole_works_of}
 use Rattle.definition.specs.Walk.{Walk, Walked, finished, stopped}
@@ -28,7 +27,8 @@ use Rattle.answer.specs.declared.Planned.TheVariants as P
 use Rattle.walk.specs.declared.Summary.{Summary}
 use Rattle.walk.specs.declared.Walked as Declared
 use Rattle.walk.specs.declared.Walked.TheVariants as W
-use Rattle.walk.specs.Walking.{Buffers, lengths_of, Ended, WalkEnds, SameLengths}
+use Rattle.outputs.specs.Outputs.{Buffers, lengths_of, SameLengths}
+use Rattle.walk.specs.Walking.{Ended, WalkEnds}
 use Rattle.lent.specs.Lent.{peak_answer, head_answer, Held, lent_number}
 use Rattle.outputs.specs.declared.WordCounts.{WordCounts}
 use Rattle.answer.specs.Outcome.{accepted, turned_away, outcome_of, used_in, outcome_in}
@@ -186,12 +186,12 @@ unread_held initial dense_peak number index before after h = record {
 -- what the head alone decides
 abbrev by_head : Head → List ℕ → Lengths → Answer ℕ → Result
 by_head h ws l (refused number) = refused_at number 0
-by_head h ws l (given dense_peak) = for_dense_peak h ws l (some dense_peak)
+by_head h ws l (given dense_peak) = for_dense_peak h ws l (Some dense_peak)
 
 head_first : (h : Head) (ws : List ℕ) (l : Lengths) (t : Bool) (d : Option ℕ) → refuse_all t 24 (for_dense_peak h ws l d) ≡ by_head h ws l (cond t (refused 24) (peak_answer d))
 head_first h ws l true d = refl
-head_first h ws l false none = refl
-head_first h ws l false (some dense_peak) = refl
+head_first h ws l false None = refl
+head_first h ws l false (Some dense_peak) = refl
 
 headed : (h : Head) (ws : List ℕ) (l : Lengths) (a : Answer ℕ) → a ≡ head_answer h → plan_of h ws l ≡ by_head h ws l a
 unfolding plan_of

@@ -2,7 +2,7 @@
 use Rattle.std.specs.Prelude.{ℕ, ◌≡◌, List}
 use Rattle.records.specs.declared.Head.{Head}
 use Rattle.definition.specs.Plan.{Plan, planned, plan_of, plan_read}
-use Rattle.walk.specs.Walking.{Buffers, lengths_of}
+use Rattle.outputs.specs.Outputs.{Buffers, lengths_of}
 use Rattle.lent.specs.Lent.{Held}
 use Rattle.answer.specs.declared.Planned.{Planned}
 use Rattle.answer.specs.Outcome.{outcome_of, outcome_in}

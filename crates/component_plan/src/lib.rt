@@ -6,7 +6,7 @@ ghost use Rattle.component_plan.specs.Answer.{Answers, ReadAnswers};
 use answer::{Planned, plan_of, unread_plan};
 use lent::{DensePeak, buffers_short, clear_all, clear_rest, dense_peak, lent_number};
 use outputs::buffers::allocated;
-use records::{Checked, Head, check_records};
+use records::{Head, check_records};
 use walk::{Walked, walk};
 
 // The plan of a program whose records are read.
@@ -43,8 +43,11 @@ fn plan_read(
     }
     let checked = check_records(records, initial_k);
     match checked {
-        Checked::Refused { number, index } => Planned::Refused { number, index },
-        Checked::Passed => {
+        Err(refusal) => Planned::Refused {
+            number: refusal.reason.number(),
+            index: refusal.index,
+        },
+        Ok(()) => {
             let walked = walk(
                 ceiling,
                 initial_k as usize,

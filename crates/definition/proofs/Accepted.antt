@@ -1,8 +1,8 @@
 -- What an accepted plan that was read comes from: every test of "Where planning stops" was passed, so the record pass let all records through and the walk
 -- finished; the plan is that of its last state.
+use Rattle.std.specs.Prelude.{Option, Some, None}
 use mathlib.Core.Path.{◌≡◌, refl, sym, ◌∙◌}
 use mathlib.Core.Bool.{Bool, true, false}
-use mathlib.Core.Option.{Option, some, none}
 use mathlib.Core.List.{List}
 use Prim.Native.Nat.{ℕ, ◌/◌, ◌≤◌}
 use native.Mathlib.Omega.{arith}
@@ -11,8 +11,7 @@ use lib.ListN.{length}
 use borrow.Author.Tests.{ltb-false}
 use Rattle.records.specs.Record.{instructions_of}
 use Rattle.records.specs.declared.Head.{Head}
-use Rattle.records.specs.declared.Checked.{Checked}
-use Rattle.records.specs.declared.Checked.TheVariants.{Passed, Refused}
+use Rattle.records.specs.Pass.{Checked, Passed, Refused}
 use Rattle.definition.specs.Walk.{Walk, Walked, finished, stopped, start, walk_from}
 use Rattle.definition.specs.Plan.{Lengths, Plan, Result, planned, unread, plan_from, words_refused, buffers_refused, refuse_all, after_walk, after_pass, pass_of, plan_read, max_dimension, for_dense_peak, ceiling_refused, plan_of}
 use Rattle.definition.proofs.Steps.{Run, run_of_walk, cond_no}
@@ -20,7 +19,7 @@ use Rattle.definition.proofs.Steps.{Run, run_of_walk, cond_no}
 pub record Accepted (h : Head) (ws : List ℕ) (l : Lengths) (p : Plan) : Type 0 where
   pub dense_peak : ℕ
   pub last : Walk
-  pub dimension_given : max_dimension h ≡ some dense_peak
+  pub dimension_given : max_dimension h ≡ Some dense_peak
   pub words : words_refused ws ≡ false
   pub buffers : buffers_refused (length ws / 8) l ≡ false
   pub initial_small : h.initial_k ≤ 512
@@ -43,9 +42,9 @@ walk_planned initial d (finished u) p e = let same : p ≡ plan_from initial d u
 walk_planned initial d (stopped n i) p e = let z : ◌≡◌ {A = ℕ} 0 1 = cc in absurd (omega arith)
 
 peak_planned : (h : Head) (ws : List ℕ) (l : Lengths) (o : Option ℕ) (p : Plan) → unread h ≡ false → for_dense_peak h ws l o ≡ planned p
-    → (d : ℕ) × (o ≡ some d) × (plan_read h ws l d ≡ planned p)
-peak_planned h ws l none p read e = let z : ◌≡◌ {A = ℕ} 0 1 = cc in absurd (omega arith)
-peak_planned h ws l (some d) p read e = (d, refl, sym (cond_no (unread h) _ _ read) ∙ e)
+    → (d : ℕ) × (o ≡ Some d) × (plan_read h ws l d ≡ planned p)
+peak_planned h ws l None p read e = let z : ◌≡◌ {A = ℕ} 0 1 = cc in absurd (omega arith)
+peak_planned h ws l (Some d) p read e = (d, refl, sym (cond_no (unread h) _ _ read) ∙ e)
 
 -- a plan's ceiling is one of 1 to 62, and the plan is that of the tests behind it
 pub ceiling_passed : (h : Head) (ws : List ℕ) (l : Lengths) (p : Plan) → plan_of h ws l ≡ planned p

@@ -1,9 +1,9 @@
 -- Outputs only grow: every accepted step appends two words of steps and at most one row, and its row names a part of the merge list that the same step
 -- appends. So each law of a run is the law of one step, repeated.
+use Rattle.std.specs.Prelude.{Option, Some, None}
 use mathlib.Core.Path.{◌≡◌, refl, sym, ap, ◌∙◌}
 use mathlib.Core.Logic.{◌⊎◌, inl, inr}
 use mathlib.Core.Bool.{Bool, true, false, cond, not}
-use mathlib.Core.Option.{Option, some, none}
 use mathlib.Core.List.{List, [], ◌∷◌, ◌++◌, append-nil, append_assoc}
 use Prim.Native.Nat.{ℕ, zero, suc, ◌+◌, ◌*◌, ◌/◌, ◌≤◌, ◌<◌}
 use native.Mathlib.Nat.{mul-suc, mul-zero}
@@ -13,15 +13,14 @@ use lib.ListN.{length, get_or, take, drop, length-append}
 use lib.Seq.{take_at, drop_at, drop-drop}
 use lib.Ieee.{Float}
 use Rattle.kernels.specs.Bits.{bit_at, dimension}
-use Rattle.kernels.specs.Active.{Answer, given, refused, of_dimension, rotation, measurement, imaginary}
+use Rattle.refusals.specs.Answer.{Answer, given, refused}
+use Rattle.kernels.specs.Active.{of_dimension, rotation, measurement, imaginary}
 use Rattle.kernels.specs.declared.active.ActivePauliAction.{ActivePauliAction}
 use Rattle.kernels.specs.declared.active.PrecomputedActivePauliRotationKernel.{PrecomputedActivePauliRotationKernel}
 use Rattle.kernels.specs.declared.active.PrecomputedActivePauliMeasurementKernel.{PrecomputedActivePauliMeasurementKernel}
 use Rattle.records.specs.Record.{instructions_of}
-use Rattle.records.specs.Pass.{record_pass}
+use Rattle.records.specs.Pass.{Checked, Passed, Refused, record_pass}
 use Rattle.records.specs.declared.Head.{Head}
-use Rattle.records.specs.declared.Checked.{Checked}
-use Rattle.records.specs.declared.Checked.TheVariants.{Passed, Refused}
 use Rattle.records.specs.declared.Instruction.{Instruction}
 use Rattle.records.specs.declared.Instruction.TheVariants.{Rotation, Promotion, RecordMeasurement, RecordDetector, Measurement, Expectation, DormantBranch}
 use Rattle.records.proofs.Laws.{refused_in, instructions_length}
@@ -334,8 +333,8 @@ number_when (refused n) f m e p = let same : n ≡ m = cc in p (ap refused same)
 
 -- 14, where a dimension is too large
 number_dimension : {A : Type 0} (d : Option ℕ) (f : ℕ → Answer A) (m : ℕ) → of_dimension d f ≡ refused m → ((n : ℕ) → f n ≡ refused m → FromWalk m) → FromWalk m
-number_dimension none f m e p = let same : 14 ≡ m = cc in (omega arith, omega arith)
-number_dimension (some n) f m e p = p n e
+number_dimension None f m e p = let same : 14 ≡ m = cc in (omega arith, omega arith)
+number_dimension (Some n) f m e p = p n e
 
 -- a value is no refusal
 number_given : {A : Type 0} {a : A} {m : ℕ} → given a ≡ refused m → FromWalk m
@@ -463,5 +462,5 @@ refused_index h ws l = indexed_refuse ws (ceiling_refused h) 24 _ (go (max_dimen
     either false p r i = i
 
     go : (d : Option ℕ) → Indexed ws (for_dense_peak h ws l d)
-    go none = indexed_first ws 1
-    go (some dense_peak) = either (unread h) _ _ (read dense_peak)
+    go None = indexed_first ws 1
+    go (Some dense_peak) = either (unread h) _ _ (read dense_peak)

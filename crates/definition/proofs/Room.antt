@@ -1,10 +1,10 @@
 -- What always suffices. Merges: a join lists s sources, writes one row and leaves s - 1 components fewer with members, so that merges and components with
 -- members together grow by one a row. Peak: a record's width is the number of members, at most 62, and sizes that add up to 62 give powers of two that add up
 -- to 2 ^ 62 at most; a promotion adds 2. Groups: a count for each component with members, and the members.
+use Rattle.std.specs.Prelude.{Option, Some, None}
 use mathlib.Core.Path.{◌≡◌, refl, sym, ap, ap₂, ◌∙◌, subst, subst₂}
 use mathlib.Core.Logic.{⊎_elim}
 use mathlib.Core.Bool.{Bool, true, false, cond, ◌||◌}
-use mathlib.Core.Option.{Option, some, none}
 use mathlib.Core.List.{List, [], ◌∷◌, ◌++◌, map}
 use Prim.Native.Nat.{ℕ, zero, suc, ◌+◌, ◌-◌, ◌*◌, ◌/◌, ◌^◌, ◌≤◌, ◌<◌}
 use native.Mathlib.Nat.{mul-le-mul_left, mul-le-mul_right, eq-zero-or-pos}
@@ -17,10 +17,9 @@ use lib.Seq.{get_or-set_other, take-length}
 use lib.Pow.{pow_mono, pow-add}
 use borrow.Author.Tests.{ltb-false, ne_eqb}
 use Rattle.records.specs.Record.{kind, width, x_mask, z_mask, phase, pivot, flag, measurement_of, instructions_by_kind, instruction_of, record_at, records_of, instructions_of}
-use Rattle.records.specs.Pass.{coordinates_after, record_pass}
+use Rattle.records.specs.Pass.{Passed, coordinates_after, record_pass}
 use Rattle.records.specs.Sound.{Sound, coordinates_through}
 use Rattle.records.specs.declared.Head.{Head}
-use Rattle.records.specs.declared.Checked.TheVariants.{Passed}
 use Rattle.records.specs.declared.Instruction.{Instruction}
 use Rattle.records.specs.declared.Instruction.TheVariants.{Rotation, Promotion, RecordMeasurement, RecordDetector, Measurement, Expectation, DormantBranch}
 use Rattle.records.proofs.Laws.{passed_sound, passed_coordinates, instructions_length, instruction_at}
@@ -487,8 +486,8 @@ pub unread_planned : (h : Head) (ws : List ℕ) (l : Lengths) (p : Plan) → unr
 unread_planned h ws l p u e = go (max_dimension h) (ceiling_passed h ws l p e).1
   where
     go : (d : Option ℕ) → for_dense_peak h ws l d ≡ planned p → (dense_peak : ℕ) × (p ≡ unread_plan h.initial_k dense_peak)
-    go none e = let z : ◌≡◌ {A = ℕ} 0 1 = cc in absurd (omega arith)
-    go (some dense_peak) e =
+    go None e = let z : ◌≡◌ {A = ℕ} 0 1 = cc in absurd (omega arith)
+    go (Some dense_peak) e =
         let f : planned (unread_plan h.initial_k dense_peak) ≡ planned p = sym (cond_yes (unread h) _ _ u) ∙ e in
         let same : p ≡ unread_plan h.initial_k dense_peak = cc in (dense_peak, same)
 

@@ -1,8 +1,8 @@
 -- What an accepted step was: each test of `rotate` and `measure` that was passed, by taking the tests apart one after the other. And the run of accepted
 -- steps that a finished walk is.
+use Rattle.std.specs.Prelude.{Some, None}
 use mathlib.Core.Path.{◌≡◌, refl, sym, ap, ◌∙◌, subst}
 use mathlib.Core.Bool.{Bool, true, false, cond}
-use mathlib.Core.Option.{some, none}
 use mathlib.Core.List.{List, [], ◌∷◌}
 use Prim.Native.Nat.{ℕ, zero, suc, ◌<◌, ◌^◌, min}
 use native.Mathlib.Omega.{arith}
@@ -11,7 +11,8 @@ use lib.ListN.{length, get_or, take, drop}
 use lib.Ieee.{Float}
 use borrow.Author.Tests.{eqb-true, eqb-false, ltb-true, not-false}
 use Rattle.kernels.specs.Bits.{dimension}
-use Rattle.kernels.specs.Active.{Answer, given, refused, rotation, measurement}
+use Rattle.refusals.specs.Answer.{Answer, given, refused}
+use Rattle.kernels.specs.Active.{rotation, measurement}
 use Rattle.kernels.specs.declared.active.PrecomputedActivePauliRotationKernel.{PrecomputedActivePauliRotationKernel}
 use Rattle.kernels.specs.declared.active.PrecomputedActivePauliMeasurementKernel.{PrecomputedActivePauliMeasurementKernel}
 use Rattle.records.specs.declared.Instruction.{Instruction}
@@ -48,7 +49,7 @@ dimension_below limit size h = go (ltb size (min limit 64)) refl
     go : (t : Bool) → ltb size (min limit 64) ≡ t → (size < limit) × (size < 64)
     go true e = let l = ltb-true size (min limit 64) e in (omega arith, omega arith)
     go false e =
-        let n : is_none (cond (ltb size (min limit 64)) (some (2 ^ size)) none) ≡ true = ap (λ (t : Bool). is_none (cond t (some (2 ^ size)) none)) e in
+        let n : is_none (cond (ltb size (min limit 64)) (Some (2 ^ size)) None) ≡ true = ap (λ (t : Bool). is_none (cond t (Some (2 ^ size)) None)) e in
         let z : ◌≡◌ {A = Bool} false true = sym h ∙ n in
         let y : ◌≡◌ {A = ℕ} 0 1 = cc in absurd (omega arith)
 

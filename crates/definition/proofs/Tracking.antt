@@ -1,9 +1,9 @@
 -- The walk's state and the roll go together: each accepted step keeps the invariant of the components, raises the peak to the live dimensions of its moments,
 -- and raises a component's longest size to the sizes that the step gives it.
+use Rattle.std.specs.Prelude.{Option, Some, None}
 use mathlib.Core.Path.{◌≡◌, refl, sym, ap, ap₂, ◌∙◌, subst}
 use mathlib.Core.Logic.{◌⊎◌, inl, inr}
 use mathlib.Core.Bool.{Bool, true, false, cond, not}
-use mathlib.Core.Option.{Option, some, none}
 use mathlib.Core.List.Memᴰ
 use mathlib.Core.List.{List, [], ◌∷◌, ◌++◌, map, Memᴰ}
 use Prim.Native.Nat.{ℕ, ◌+◌, ◌/◌, ◌%◌, ◌≤◌, ◌<◌, max}
@@ -12,7 +12,8 @@ use lib.Dec.{eqb}
 use lib.ListN.{length, get_or, set, length-set, length-append, length-replicate}
 use lib.Ieee.{Float}
 use Rattle.kernels.specs.Bits.{dimension, bit_at, without_bit}
-use Rattle.kernels.specs.Active.{Answer, given, refused, rotation, rotation_kernel, measurement, measurement_kernel, nondiagonal, diagonal, of_dimension, imaginary}
+use Rattle.refusals.specs.Answer.{Answer, given, refused}
+use Rattle.kernels.specs.Active.{rotation, rotation_kernel, measurement, measurement_kernel, nondiagonal, diagonal, of_dimension, imaginary}
 use Rattle.kernels.specs.declared.active.ActivePauliAction.{ActivePauliAction}
 use Rattle.kernels.specs.declared.active.PrecomputedActivePauliRotationKernel.{PrecomputedActivePauliRotationKernel}
 use Rattle.kernels.specs.declared.active.PrecomputedActivePauliMeasurementKernel.{PrecomputedActivePauliMeasurementKernel}
@@ -32,8 +33,8 @@ use Rattle.definition.proofs.Invariant.{class_in, anchored_some, anchored_member
 -- ---- what a kernel keeps of what it was made from
 
 dimension_given : {A : Type 0} (d : Option ℕ) (f : ℕ → Answer A) (k : A) → of_dimension d f ≡ given k → (n : ℕ) × (f n ≡ given k)
-dimension_given none f k e = let z : ◌≡◌ {A = ℕ} 0 1 = cc in absurd (omega arith)
-dimension_given (some n) f k e = (n, e)
+dimension_given None f k e = let z : ◌≡◌ {A = ℕ} 0 1 = cc in absurd (omega arith)
+dimension_given (Some n) f k e = (n, e)
 
 pub rotation_action : (limit : ℕ) (a : ActivePauliAction) (p : ℕ) (angle sine cosine : Float) (k : PrecomputedActivePauliRotationKernel)
     → rotation limit a p angle sine cosine ≡ given k → k.action ≡ a

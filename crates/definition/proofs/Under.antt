@@ -1,9 +1,9 @@
 -- What the ceiling decides. A step reads it only through the dimension of the members it joins, and a join's members are counted among the longest sizes. So a walk that
 -- finished under one ceiling has every longest size below it, and finishes in the same state under each ceiling that is above them all.
+use Rattle.std.specs.Prelude.{Option, Some, None}
 use mathlib.Core.Path.{◌≡◌, refl, sym, ap, ◌∙◌, subst}
 use mathlib.Core.Logic.{⊎_elim}
 use mathlib.Core.Bool.{Bool, true, false, cond, not}
-use mathlib.Core.Option.{Option, some, none}
 use mathlib.Core.List.{List, [], ◌∷◌}
 use Prim.Native.Nat.{ℕ, zero, suc, ◌^◌, ◌≤◌, ◌<◌, min}
 use native.Mathlib.Omega.{arith}
@@ -11,7 +11,8 @@ use lib.Dec.{eqb, ltb}
 use lib.ListN.{length, get_or}
 use borrow.Author.Tests.{lt-ltb, le-ltb, ltb-false}
 use Rattle.kernels.specs.Bits.{dimension}
-use Rattle.kernels.specs.Active.{Answer, given, of_dimension, rotation_kernel, nondiagonal, diagonal, refused}
+use Rattle.refusals.specs.Answer.{Answer, given, refused}
+use Rattle.kernels.specs.Active.{of_dimension, rotation_kernel, nondiagonal, diagonal}
 use Rattle.records.specs.Record.{instructions_of}
 use Rattle.records.specs.declared.Head.{Head}
 use Rattle.records.specs.declared.Instruction.{Instruction}
@@ -33,7 +34,7 @@ use Rattle.definition.proofs.Connected.{longest_is, read_head}
 use Rattle.definition.proofs.Padded.{Pads, zeroed_at, after_same, joined_same, accepted_names}
 
 -- below the ceiling the dimension is the power of two, whatever the ceiling is
-dimension_at : (ceiling size : ℕ) → size < ceiling → size < 64 → dimension ceiling size ≡ some (2 ^ size)
+dimension_at : (ceiling size : ℕ) → size < ceiling → size < 64 → dimension ceiling size ≡ Some (2 ^ size)
 unfolding dimension
 dimension_at ceiling size below small = cond_yes (ltb size (min ceiling 64)) _ _ (lt-ltb size (min ceiling 64) (omega arith))
 
@@ -143,7 +144,7 @@ module _ (ceiling other : ℕ) where
 -- ---- plans under another ceiling
 
 -- what has a dimension is below the ceiling
-given_below : (ceiling k d : ℕ) → dimension ceiling k ≡ some d → (k < ceiling) × (k < 64)
+given_below : (ceiling k d : ℕ) → dimension ceiling k ≡ Some d → (k < ceiling) × (k < 64)
 given_below ceiling k d e = dimension_below ceiling k (ap is_none e)
 
 -- a longest size has its dimension, under a ceiling above 1
@@ -158,12 +159,12 @@ module _ (h : Head) (ws : List ℕ) (l : Lengths) (p : Plan) (e : plan_of h ws l
       (ltb-false h.ceiling 1 o.0, ltb-false 62 h.ceiling o.1)
 
   -- max_k has its dimension, so it is below the ceiling
-  peak_given : (d : ℕ) × (dimension h.ceiling h.max_k ≡ some d)
+  peak_given : (d : ℕ) × (dimension h.ceiling h.max_k ≡ Some d)
   peak_given = go (dimension h.ceiling h.max_k) refl (ceiling_passed h ws l p e).1
     where
-      go : (o : Option ℕ) → dimension h.ceiling h.max_k ≡ o → for_dense_peak h ws l o ≡ planned p → (d : ℕ) × (dimension h.ceiling h.max_k ≡ some d)
-      go none f g = let z : ◌≡◌ {A = ℕ} 0 1 = cc in absurd (omega arith)
-      go (some d) f g = (d, f)
+      go : (o : Option ℕ) → dimension h.ceiling h.max_k ≡ o → for_dense_peak h ws l o ≡ planned p → (d : ℕ) × (dimension h.ceiling h.max_k ≡ Some d)
+      go None f g = let z : ◌≡◌ {A = ℕ} 0 1 = cc in absurd (omega arith)
+      go (Some d) f g = (d, f)
 
   max_is_below : h.max_k < h.ceiling
   max_is_below = (given_below h.ceiling h.max_k peak_given.0 peak_given.1).0

@@ -1,8 +1,8 @@
 -- Every word of an accepted plan is below 2 ^ 64: lengths and numbers of components, rows and sources are bounded by the records, masks and dimensions by a
 -- size below 64, and every float is a constant, a rounded sum or product, or a number of the record, so that binary64 holds it and its bits are a word.
+use Rattle.std.specs.Prelude.{Option, Some, None}
 use mathlib.Core.Path.{◌≡◌, refl, sym, ◌∙◌, subst}
 use mathlib.Core.Bool.{Bool, true, false, cond, not}
-use mathlib.Core.Option.{Option, some, none}
 use mathlib.Core.List.{List, [], ◌∷◌, ◌++◌}
 use Prim.Native.Nat.{ℕ, zero, suc, ◌/◌, ◌%◌, ◌^◌, ◌≤◌, ◌<◌, min}
 use native.Mathlib.Omega.{arith}
@@ -15,7 +15,8 @@ use lib.Ieee.Bits.{to_bits-lt, of_bits-fits}
 use lib.Ieee.Fits.{neg-fits, add-fits, sub-fits, mul-fits}
 use borrow.Author.Tests.{ltb-true, ltb-false}
 use Rattle.kernels.specs.Bits.{odd_ones, dimension, bit_at, without_bit, highest_bit}
-use Rattle.kernels.specs.Active.{Answer, given, refused, unit_power, phase_factor, odd_phase, action, imaginary, of_dimension, rotation_kernel, rotation, measurement_kernel, measurement}
+use Rattle.refusals.specs.Answer.{Answer, given, refused}
+use Rattle.kernels.specs.Active.{unit_power, phase_factor, odd_phase, action, imaginary, of_dimension, rotation_kernel, rotation, measurement_kernel, measurement}
 use Rattle.kernels.specs.declared.active.Complex64.{Complex64}
 use Rattle.kernels.specs.declared.active.ActivePauliAction.{ActivePauliAction}
 use Rattle.kernels.specs.declared.active.PrecomputedActivePauliRotationKernel.{PrecomputedActivePauliRotationKernel}
@@ -128,11 +129,11 @@ instruction_floats ws i h =
 -- ---- rows
 
 -- a dimension is a power of two below 2 ^ 64
-dimension_word : (limit k n : ℕ) → dimension limit k ≡ some n → n < 2 ^ 64
+dimension_word : (limit k n : ℕ) → dimension limit k ≡ Some n → n < 2 ^ 64
 unfolding dimension
 dimension_word limit k n = go (ltb k (min limit 64)) refl
   where
-    go : (t : Bool) → ltb k (min limit 64) ≡ t → cond t (some (2 ^ k)) none ≡ some n → n < 2 ^ 64
+    go : (t : Bool) → ltb k (min limit 64) ≡ t → cond t (Some (2 ^ k)) None ≡ Some n → n < 2 ^ 64
     go true e f =
         let same : 2 ^ k ≡ n = cc in
         let l = ltb-true k (min limit 64) e in
@@ -150,9 +151,9 @@ given_cond P true x y p q = p
 given_cond P false x y p q = q
 
 -- and of an answer for a dimension
-given_dimension : {A : Type 0} (P : A → Type 0) (d : Option ℕ) (f : ℕ → Answer A) → ((n : ℕ) → d ≡ some n → Given P (f n)) → Given P (of_dimension d f)
-given_dimension P none f h = tt
-given_dimension P (some n) f h = h n refl
+given_dimension : {A : Type 0} (P : A → Type 0) (d : Option ℕ) (f : ℕ → Answer A) → ((n : ℕ) → d ≡ Some n → Given P (f n)) → Given P (of_dimension d f)
+given_dimension P None f h = tt
+given_dimension P (Some n) f h = h n refl
 
 -- the first eleven words
 head_words : (component offset count size x z phase : ℕ) → component < 2 ^ 64 → offset < 2 ^ 64 → count < 2 ^ 64 → size < 64 → x < 2 ^ 64 → z < 2 ^ 64
@@ -203,7 +204,7 @@ module _ (limit component offset count size x z phase : ℕ) (head : Words (row_
       Row : PrecomputedActivePauliMeasurementKernel → Type 0
       Row k = Words (measurement_row component offset count k deactivated)
 
-      row : (n : ℕ) → dimension limit size ≡ some n → (diagonal : Bool) (bit rest : ℕ) → bit < 2 ^ 64 → rest < 2 ^ 64
+      row : (n : ℕ) → dimension limit size ≡ Some n → (diagonal : Bool) (bit rest : ℕ) → bit < 2 ^ 64 → rest < 2 ^ 64
           → Row (measurement_kernel n act pivot diagonal bit rest)
       row n f diagonal bit rest b r =
           let d = dimension_word limit size n f in
@@ -374,8 +375,8 @@ unfolding unread_plan
 unread_made h ws l p u e = go (max_dimension h) refl (ceiling_passed h ws l p e).1
   where
     go : (d : Option ℕ) → dimension h.ceiling h.max_k ≡ d → for_dense_peak h ws l d ≡ planned p → Made h.ceiling h.initial_k (length ws / 8) p
-    go none f e = let z : ◌≡◌ {A = ℕ} 0 1 = cc in absurd (omega arith)
-    go (some dense_peak) f e =
+    go None f e = let z : ◌≡◌ {A = ℕ} 0 1 = cc in absurd (omega arith)
+    go (Some dense_peak) f e =
         let g : planned (unread_plan h.initial_k dense_peak) ≡ planned p = sym (cond_yes (unread h) _ _ u) ∙ e in
         let same : p ≡ unread_plan h.initial_k dense_peak = cc in record {
           start_size = 0;

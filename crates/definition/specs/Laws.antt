@@ -1,8 +1,7 @@
 -- Laws that hold of every state the walk reaches and of every plan: works are numbers or infinite, never negative; whole works are given exactly where
 -- the width never passes 38, and there the float works are these numbers; the states that the Rust guards against never occur; the outputs fit the
 -- lent buffers; every word of a plan is below 2 ^ 64; every component has its dimension under the ceiling; and which ceilings a plan has.
-use Rattle.std.specs.Prelude.{ℕ, ◌+◌, ◌*◌, ◌%◌, ◌^◌, ◌≤◌, ◌<◌, ◌≡◌, List, [], ◌∷◌, Bool, ℤ, pos, length, get_or, take, Float}
-use Rattle.std.proofs.Math.Option.{some}
+use Rattle.std.specs.Prelude.{ℕ, ◌+◌, ◌*◌, ◌%◌, ◌^◌, ◌≤◌, ◌<◌, ◌≡◌, List, [], ◌∷◌, Bool, ℤ, pos, length, get_or, take, Float, Some}
 use Rattle.std.specs.Float.{inf, fin, binary64}
 use Rattle.std.specs.Float.Ieee.{of_int, to_bits}
 use Rattle.std.specs.Float.Ieee.Exact.{HasValue}
@@ -114,7 +113,7 @@ pub record PlanCounts (n : ℕ) (p : Plan) : Type 0 where
 
 -- so many members have a dimension, which is the power of two
 abbrev pub HasDimension : ℕ → ℕ → Type 0
-HasDimension ceiling size = dimension ceiling size ≡ some (2 ^ size)
+HasDimension ceiling size = dimension ceiling size ≡ Some (2 ^ size)
 
 -- "Everything that asks for a dimension follows: kernels, live sums, allocation". Of a plan of n records that were read: the components after each record (whose powers
 -- the live dimension adds up), just after each join (whose power the record's kernel halves), and at their longest (whose powers are allocated)

@@ -1,15 +1,12 @@
 -- The plan of an input: refusals 1 to 4, the record pass, the walk, the choice and the outputs. Written from 01, sections 4 and 6, and "Where planning stops"; the
 -- whole works are 02's, CR 1, and the ceiling is 02's, CR 4.
-use Rattle.std.specs.Prelude.{ℕ, suc, ◌+◌, ◌-◌, ◌*◌, ◌/◌, ◌%◌, List, [], ◌∷◌, ◌++◌, Bool, true, false, cond, not, ◌&&◌, ◌||◌, leb, ltb, eqb, length, replicate, pos, negsuc, Float}
-use Rattle.std.proofs.Math.Option.{Option, some, none}
+use Rattle.std.specs.Prelude.{ℕ, suc, ◌+◌, ◌-◌, ◌*◌, ◌/◌, ◌%◌, List, [], ◌∷◌, ◌++◌, Bool, true, false, cond, not, ◌&&◌, ◌||◌, leb, ltb, eqb, length, replicate, pos, negsuc, Float, Option, Some, None}
 use Rattle.std.specs.Float.{fin, binary64}
 use Rattle.std.specs.Float.Ieee.{round, mul, sub, le, of_int}
 use Rattle.kernels.specs.Bits.{dimension}
 use Rattle.records.specs.Record.{instructions_of}
-use Rattle.records.specs.Pass.{record_pass}
+use Rattle.records.specs.Pass.{Checked, Passed, Refused, record_pass}
 use Rattle.records.specs.declared.Head.{Head}
-use Rattle.records.specs.declared.Checked.{Checked}
-use Rattle.records.specs.declared.Checked.TheVariants.{Passed, Refused}
 use Rattle.definition.specs.Lists.{concat}
 use Rattle.definition.specs.Components.{allocated_for}
 use Rattle.definition.specs.WholeWorks.{WholeWorks, whole_works_of}
@@ -165,8 +162,8 @@ max_dimension h = dimension h.ceiling h.max_k
 
 -- 1: "max_k >= 62"; 02, CR 4: "Condition 1 reads the ceiling where it reads 62"
 abbrev pub for_dense_peak : Head → List ℕ → Lengths → Option ℕ → Result
-for_dense_peak h ws l none = refused_at 1 0
-for_dense_peak h ws l (some dense_peak) = cond (unread h) (planned (unread_plan h.initial_k dense_peak)) (plan_read h ws l dense_peak)
+for_dense_peak h ws l None = refused_at 1 0
+for_dense_peak h ws l (Some dense_peak) = cond (unread h) (planned (unread_plan h.initial_k dense_peak)) (plan_read h ws l dense_peak)
 
 -- 24: 02, CR 4: "A ceiling outside 1 to 62"
 abbrev pub ceiling_refused : Head → Bool

@@ -1,11 +1,11 @@
 -- The walk over the instructions, one step for each, with refusals 11 to 20. Written from 01, section 4, and its table "Where planning stops"; the whole works
 -- that go along with it are 02's, CR 1.
-use Rattle.std.specs.Prelude.{ℕ, suc, ◌+◌, ◌*◌, ◌^◌, max, List, [], ◌∷◌, ◌++◌, map, Bool, true, false, cond, not, ltb, eqb, length, get_or, set, replicate, pos, Float}
-use Rattle.std.proofs.Math.Option.{Option, some, none}
+use Rattle.std.specs.Prelude.{ℕ, suc, ◌+◌, ◌*◌, ◌^◌, max, List, [], ◌∷◌, ◌++◌, map, Bool, true, false, cond, not, ltb, eqb, length, get_or, set, replicate, pos, Float, Option, Some, None}
 use Rattle.std.specs.Float.{fin, binary64}
 use Rattle.std.specs.Float.Ieee.{add, mul, to_bits}
 use Rattle.kernels.specs.Bits.{odd_ones, highest_bit, exp2, dimension}
-use Rattle.kernels.specs.Active.{Answer, given, refused, action, rotation, measurement}
+use Rattle.refusals.specs.Answer.{Answer, given, refused}
+use Rattle.kernels.specs.Active.{action, rotation, measurement}
 use Rattle.kernels.specs.declared.active.Complex64.{Complex64}
 use Rattle.kernels.specs.declared.active.ActivePauliAction.{ActivePauliAction}
 use Rattle.kernels.specs.declared.active.PrecomputedActivePauliRotationKernel.{PrecomputedActivePauliRotationKernel}
@@ -131,8 +131,8 @@ when_given (given a) f = f a
 when_given (refused number) f = refused number
 
 abbrev pub is_none : Option ℕ → Bool
-is_none none = true
-is_none (some n) = false
+is_none None = true
+is_none (Some n) = false
 
 -- 14: "a component of 62"; 02, CR 4: "a component whose size is the ceiling or more"
 abbrev pub too_large : ℕ → Join → Bool

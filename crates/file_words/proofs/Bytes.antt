@@ -1,45 +1,20 @@
--- Bytes of a list by their places. A word's eight bytes are two halves of four; a loop that writes or reads word by word keeps what it has done in front, and
--- each turn adds the bytes of one word.
+-- Bytes of a list by their places. A loop that writes or reads word by word keeps what it has done in front, and each turn adds the bytes of one word.
 -- Assumes nothing.
 use mathlib.Core.Path.{◌≡◌, refl, sym, ap, ◌∙◌}
 use mathlib.Core.List.{List, [], ◌∷◌, ◌++◌, map, append_assoc, append-nil}
-use Prim.Native.Nat.{ℕ, zero, suc, ◌+◌, ◌*◌, ◌≤◌, ◌<◌}
+use Prim.Native.Nat.{ℕ, zero, suc, ◌+◌, ◌*◌, ◌/◌, ◌%◌, ◌^◌, ◌≤◌, ◌<◌}
 use native.Mathlib.Nat.{add-zero, add-suc, suc-add, add_assoc}
 use native.Mathlib.Numerals.{add-one}
 use native.Mathlib.Omega.{arith}
-use lib.ListN.{length, get_or, take, drop, length-append, length-drop, take-append-drop}
-use lib.Seq.{take-add, take-suc, take_at, drop-drop, drop-append-add, length-take-le}
+use Rattle.std.proofs.Math.Nat.{div-div-eq-div-mul, div-one, pow-suc}
+use Rattle.std.proofs.Common.{w64}
+use Rattle.std.specs.Int.{bytes_low_first, to_le_bytes}
+use borrow.Rule.Slice.PartMut.{put_mid}
+use lib.ListN.{length, get_or, take, drop, length-append, length-drop}
+use lib.Seq.{take-suc, take_at, drop-drop, drop-append-add, length-take-le}
 use Rattle.definition.specs.Lists.{numbers_from}
 use Rattle.outputs.specs.Buffers.{patch}
-use Rattle.file_words.specs.Words.{bytes_of, word_bytes, number_of, word_at, words_at}
-
--- ---- a word that is read
-
--- four bytes, each by its index
-pub four : (t : List ℕ) → 4 ≤ length t → take 4 t ≡ get_or t 0 0 ∷ get_or t 1 0 ∷ get_or t 2 0 ∷ get_or t 3 0 ∷ []
-four [] h = absurd (omega arith)
-four (a ∷ []) h = absurd (omega arith)
-four (a ∷ b ∷ []) h = absurd (omega arith)
-four (a ∷ b ∷ c ∷ []) h = absurd (omega arith)
-four (a ∷ b ∷ c ∷ d ∷ t) h = refl
-
--- bytes behind four count 2 ^ 32 times as much
-four_more : (t u : List ℕ) → 4 ≤ length t → number_of (take 4 t ++ u) ≡ number_of (take 4 t) + 4294967296 * number_of u
-four_more [] u h = absurd (omega arith)
-four_more (a ∷ []) u h = absurd (omega arith)
-four_more (a ∷ b ∷ []) u h = absurd (omega arith)
-four_more (a ∷ b ∷ c ∷ []) u h = absurd (omega arith)
-four_more (a ∷ b ∷ c ∷ d ∷ t) u h = omega arith
-
--- a word is its two halves
-pub halves : (file : List ℕ) (i : ℕ) → 8 * (i + 1) ≤ length file
-    → number_of (take 4 (drop (8 * i) file)) + 4294967296 * number_of (take 4 (drop (8 * i + 4) file)) ≡ word_at file i
-halves file i h =
-    let long = length-drop (8 * i) file in
-    sym (
-    ap number_of (take-add 4 4 (drop (8 * i) file))
-    ∙ four_more (drop (8 * i) file) (take 4 (drop 4 (drop (8 * i) file))) (omega arith)
-    ∙ ap (λ (l : List ℕ). number_of (take 4 (drop (8 * i) file)) + 4294967296 * number_of (take 4 l)) (drop-drop 4 (8 * i) file))
+use Rattle.file_words.specs.Words.{bytes_of, word_bytes, word_at, words_at}
 
 -- ---- words that are read one after the other
 
@@ -103,18 +78,24 @@ patch_behind at ws vs xs n e h =
     ∙ append_assoc (take at xs) ws (vs ++ drop (at + length (ws ++ vs)) xs)
     ∙ ap (λ (l : List ℕ). take at xs ++ l) (sym (append_assoc ws vs (drop (at + length (ws ++ vs)) xs)))
 
--- nothing written yet
-pub patch_none : (at : ℕ) (xs : List ℕ) → xs ≡ patch at [] xs
-patch_none at xs = sym (ap (λ (k : ℕ). take at xs ++ drop k xs) (add-zero at) ∙ take-append-drop at xs)
+-- the bytes that `to_le_bytes` gives
+low_bytes : (i n w : ℕ) → bytes_low_first i n w ≡ bytes_of n (w / 256 ^ i)
+low_bytes i zero w = refl
+low_bytes zero (suc n) w = ap (λ (l : List ℕ). w % 256 ∷ l) (low_bytes 1 n w) ∙ ap (bytes_of (suc n)) (sym (div-one w))
+low_bytes (suc i) (suc n) w =
+    ap (λ (l : List ℕ). w / 256 ^ suc i % 256 ∷ l)
+    (low_bytes (suc (suc i)) n w ∙ ap (bytes_of n) (ap (λ (d : ℕ). w / d) (pow-suc 256 (suc i)) ∙ sym (div-div-eq-div-mul w (256 ^ suc i) 256)))
 
 -- a turn of the loop that writes: one word more
-pub turn_writes : (words file : List ℕ) (at i : ℕ) → i < length words → 8 * (at + length words) ≤ length file
-    → patch (8 * (at + i)) (bytes_of 8 (get_or words i 0)) (patch (8 * at) (word_bytes (take i words)) file) ≡ patch (8 * at) (word_bytes (take (i + 1) words)) file
-turn_writes words file at i h room =
+pub turn_writes : (words file : List ℕ) (at i k : ℕ) (now written : List ℕ) → i < length words → 8 * (at + length words) ≤ length file → k ≡ 8
+    → written ≡ to_le_bytes w64 (get_or words i 0) → now ≡ patch (8 * at) (word_bytes (take i words)) file
+    → put_mid (8 * (at + i)) k now written ≡ patch (8 * at) (word_bytes (take (i + 1) words)) file
+turn_writes words file at i k now written h room eight is so_far =
     let done = length_bytes (take i words) in
     let long = length-take-le i words (omega arith) in
-    patch_behind (8 * at) (word_bytes (take i words)) (bytes_of 8 (get_or words i 0)) file (8 * (at + i)) (omega arith) (omega arith)
-    ∙ ap (λ (l : List ℕ). patch (8 * at) l file)
-    (ap (λ (l : List ℕ). word_bytes (take i words) ++ l) (sym (append-nil (bytes_of 8 (get_or words i 0))))
-    ∙ sym (bytes_append (take i words) (get_or words i 0 ∷ []))
-    ∙ ap word_bytes (sym (take-suc words i 0 h) ∙ ap (λ (k : ℕ). take k words) (sym (add-one i))))
+    let word = is ∙ low_bytes 0 8 (get_or words i 0) ∙ ap (bytes_of 8) (div-one (get_or words i 0)) in
+    let more : word_bytes (take (i + 1) words) ≡ word_bytes (take i words) ++ bytes_of 8 (get_or words i 0) =
+    ap word_bytes (ap (λ (n : ℕ). take n words) (add-one i) ∙ take-suc words i 0 h)
+    ∙ bytes_append (take i words) (get_or words i 0 ∷ [])
+    ∙ ap (λ (l : List ℕ). word_bytes (take i words) ++ l) (append-nil (bytes_of 8 (get_or words i 0))) in
+    rw (word, eight, so_far, drop-drop, more) (patch_behind (8 * at) (word_bytes (take i words)) (bytes_of 8 (get_or words i 0)) file (8 * (at + i)) (omega arith) (omega arith))

@@ -1,23 +1,14 @@
 -- What the contracts of the module `active` say: phases, actions and the two kernels. Written from 01, section 3.
-use Rattle.std.specs.Prelude.{ℕ, zero, suc, ◌/◌, ◌%◌, Bool, true, false, cond, not, ◌&&◌, eqb, pos, Float}
-use Rattle.std.proofs.Math.Option.{Option, some, none}
+use Rattle.std.specs.Prelude.{ℕ, zero, suc, ◌/◌, ◌%◌, Bool, true, false, cond, Option, Some, None, not, ◌&&◌, eqb, pos, Float}
 use Rattle.std.specs.Int.Bits.{bit_and}
 use Rattle.std.specs.Float.{fin, binary64}
 use Rattle.std.specs.Float.Ieee.{add, sub, mul, neg, of_bits}
+use Rattle.refusals.specs.Answer.{Answer, given, refused}
 use Rattle.kernels.specs.Bits.{odd_ones, highest_bit, bit_at, without_bit, dimension}
 use Rattle.kernels.specs.declared.active.Complex64.{Complex64}
 use Rattle.kernels.specs.declared.active.ActivePauliAction.{ActivePauliAction}
 use Rattle.kernels.specs.declared.active.PrecomputedActivePauliRotationKernel.{PrecomputedActivePauliRotationKernel}
 use Rattle.kernels.specs.declared.active.PrecomputedActivePauliMeasurementKernel.{PrecomputedActivePauliMeasurementKernel}
-use Rattle.kernels.specs.declared.active.RotationKernel.{RotationKernel}
-use Rattle.kernels.specs.declared.active.RotationKernel.TheVariants as R
-use Rattle.kernels.specs.declared.active.MeasurementKernel.{MeasurementKernel}
-use Rattle.kernels.specs.declared.active.MeasurementKernel.TheVariants as M
-
--- an answer: the value, or the number of a refusal of 01
-pub data Answer (A : Type 0) : Type 0 where
-  given : A → Answer A
-  refused : ℕ → Answer A
 
 -- the floats 0 and 1
 abbrev pub zero_f : Float
@@ -88,17 +79,12 @@ rotation_kernel n a p angle sine cosine =
 
 -- 14 where the dimension is too large, and else what `f` makes of it
 abbrev pub of_dimension : {A : Type 0} → Option ℕ → (ℕ → Answer A) → Answer A
-of_dimension none f = refused 14
-of_dimension (some n) f = f n
+of_dimension None f = refused 14
+of_dimension (Some n) f = f n
 
 -- the rotation kernel, or 14
 abbrev pub rotation : ℕ → ActivePauliAction → ℕ → Float → Float → Float → Answer PrecomputedActivePauliRotationKernel
 rotation limit a p angle sine cosine = of_dimension (dimension limit a.nqubits) (λ n. given (rotation_kernel n a p angle sine cosine))
-
--- 01's number and values for each answer of the rotation kernel's call
-abbrev pub rotation_of : RotationKernel → Answer PrecomputedActivePauliRotationKernel
-rotation_of (R.Built k) = given k
-rotation_of R.TooLarge = refused 14
 
 -- 01, section 3: h has the bits 3FE6A09E667F3BCD, and the coefficient is (a·h, (-b)·h)
 abbrev pub inv_sqrt2 : Float
@@ -136,12 +122,3 @@ measurement limit a p pivot =
     of_dimension (dimension limit a.nqubits) λ n.
     cond (not (eqb a.xmask 0)) (nondiagonal n a pivot)
     (cond (not (eqb a.zmask 0)) (diagonal n a p pivot) (refused 20))
-
--- 01's number and values for each answer of the measurement kernel's call
-abbrev pub measurement_of : MeasurementKernel → Answer PrecomputedActivePauliMeasurementKernel
-measurement_of (M.Built k) = given k
-measurement_of M.TooLarge = refused 14
-measurement_of M.PivotWithoutX = refused 17
-measurement_of M.PivotWithoutZ = refused 18
-measurement_of M.ImaginaryPhase = refused 19
-measurement_of M.Identity = refused 20

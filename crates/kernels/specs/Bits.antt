@@ -1,10 +1,7 @@
 -- What the contracts of the module `bits` say: parity, highest bit, bits by place, powers of two, dimensions. Written from 01, sections 1 and 4.
-use Rattle.std.specs.Prelude.{ℕ, ◌-◌, ◌*◌, ◌/◌, ◌%◌, ◌^◌, min, Bool, false, cond, leb, ltb, eqb, pos, Float}
-use Rattle.std.proofs.Math.Option.{Option, some, none}
+use Rattle.std.specs.Prelude.{ℕ, ◌-◌, ◌*◌, ◌/◌, ◌%◌, ◌^◌, min, Bool, false, cond, Option, Some, None, leb, ltb, eqb, pos, Float}
 use Rattle.std.specs.Int.Count.{ones_in, count_leading_zeros}
 use Rattle.std.specs.Float.{inf, fin}
-use Rattle.kernels.specs.declared.bits.ActiveLength.{ActiveLength}
-use Rattle.kernels.specs.declared.bits.ActiveLength.TheVariants.{Length, TooLarge}
 
 -- 01, section 1: the ones of a 64-bit word are odd in number
 unfoldable pub odd_ones : ℕ → Bool
@@ -30,9 +27,4 @@ exp2 k = cond (leb k 1023) (fin false 1 (pos k)) (inf false)
 
 -- 01, refusals 1 and 14: the dimension of k coordinates is 2 ^ k below the limit: 62 in 01, and the head's ceiling since 02's CR 4. A word holds none from 2 ^ 64 on
 unfoldable pub dimension : ℕ → ℕ → Option ℕ
-dimension limit k = cond (ltb k (min limit 64)) (some (2 ^ k)) none
-
--- the dimension that an answer of `active_length` gives
-abbrev pub dimension_of : ActiveLength → Option ℕ
-dimension_of (Length n) = some n
-dimension_of TooLarge = none
+dimension limit k = cond (ltb k (min limit 64)) (Some (2 ^ k)) None

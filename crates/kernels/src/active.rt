@@ -1,16 +1,26 @@
 // The action of one Pauli on a register, and the two kernels that are made of it: a rotation's, and a measurement's
 // around a pivot.
 ghost use Rattle.std.specs.Prelude.{◌≡◌};
-ghost use Rattle.kernels.specs.Active.{phase_factor, odd_phase, action, rotation_coefficient, pair_flip, rotation_kernel, rotation, rotation_of, measurement_coefficient, nondiagonal, diagonal, measurement, measurement_of};
+ghost use Rattle.refusals.specs.Answer.{given, answer_of};
+ghost use Rattle.kernels.specs.Bits.{dimension};
+ghost use Rattle.kernels.specs.Active.{phase_factor, odd_phase, action, rotation_coefficient, pair_flip, of_dimension, rotation_kernel, rotation, measurement_coefficient, nondiagonal, diagonal, measurement};
 
-use crate::bits::{
-    ActiveLength, active_length, bit_at, highest_set_bit, is_odd_popcount, without_bit,
-};
+use crate::bits::{active_length, bit_at, highest_set_bit, is_odd_popcount, without_bit};
+use refusals::Reason;
+use std::ops::Neg;
 
 #[derive(Clone, Copy)]
 pub struct Complex64 {
     pub re: f64,
     pub im: f64,
+}
+
+// The angle of a rotation, with its sine and cosine.
+#[derive(Clone, Copy)]
+pub struct Angle {
+    pub value: f64,
+    pub sine: f64,
+    pub cosine: f64,
 }
 
 // A Pauli as one word of X bits and one of Z bits. A basis index that overlaps the Z bits in an odd number of places
@@ -50,26 +60,6 @@ pub struct PrecomputedActivePauliMeasurementKernel {
     pub nondiagonal_coefficient1_even: Complex64,
 }
 
-#[derive(Clone, Copy)]
-pub enum RotationKernel {
-    Built(PrecomputedActivePauliRotationKernel),
-    TooLarge,
-}
-
-#[derive(Clone, Copy)]
-pub enum MeasurementKernel {
-    Built(PrecomputedActivePauliMeasurementKernel),
-    TooLarge,
-    // There are X bits, and none at the pivot.
-    PivotWithoutX,
-    // There are Z bits alone, and none at the pivot.
-    PivotWithoutZ,
-    // There are Z bits alone, and the phase is imaginary.
-    ImaginaryPhase,
-    // There are no bits.
-    Identity,
-}
-
 // 1 over the square root of 2.
 const INV_SQRT2: f64 = 0.7071067811865476;
 
@@ -77,8 +67,7 @@ const INV_SQRT2: f64 = 0.7071067811865476;
 pub fn phase_factor(phase: u64) -> Complex64
     ensures { result ≡ phase_factor phase }
 {
-    let p = phase % 4;
-    match p {
+    match phase % 4 {
         0 => Complex64 { re: 1.0, im: 0.0 },
         1 => Complex64 { re: 0.0, im: 1.0 },
         2 => Complex64 { re: -1.0, im: 0.0 },
@@ -86,11 +75,16 @@ pub fn phase_factor(phase: u64) -> Complex64
     }
 }
 
-impl Complex64 {
-    // The number with both parts negated.
-    pub fn negated(self) -> Self
-        ensures { result ≡ odd_phase self }
-    {
+// Both parts are negated.
+impl Neg for Complex64 {
+    type Output = Complex64;
+
+    ghost use Rattle.std.specs.Prelude.{◌≡◌};
+    ghost use Rattle.kernels.specs.Active.{odd_phase};
+
+    ghost neg_gives = { λ c r. r ≡ odd_phase c };
+
+    fn neg(self) -> Complex64 {
         Complex64 {
             re: -self.re,
             im: -self.im,
@@ -104,7 +98,7 @@ impl ActivePauliAction {
         ensures { result ≡ action nqubits xmask zmask phase }
     {
         let even_phase = phase_factor(phase);
-        let odd_phase = even_phase.negated();
+        let odd_phase = -even_phase;
         ActivePauliAction {
             nqubits,
             xmask,
@@ -113,6 +107,13 @@ impl ActivePauliAction {
             odd_phase,
             xz_overlap_odd: is_odd_popcount(xmask & zmask),
         }
+    }
+
+    // The number of amplitudes of the register, or refusal 14.
+    fn dimension(self, limit: u64) -> Result<u64, Reason>
+        ensures { answer_of result ≡ of_dimension (dimension limit self.nqubits) given }
+    {
+        active_length(self.nqubits, limit).ok_or(Reason::ComponentSize)
     }
 }
 
@@ -131,26 +132,17 @@ fn rotation_coefficient(even_phase: Complex64, sine: f64) -> Complex64
 fn can_rotate_real_pair_flip(action: ActivePauliAction, phase: u64) -> bool
     ensures { result ≡ pair_flip action phase }
 {
-    if action.zmask == 0 {
-        return false;
-    }
-    if action.xz_overlap_odd {
-        phase % 2 == 1
-    } else {
-        false
-    }
+    action.zmask != 0 && action.xz_overlap_odd && phase % 2 == 1
 }
 
 // The rotation kernel of an action whose dimension is dim.
 fn rotation_kernel(
     action: ActivePauliAction,
     phase: u64,
-    kernel_angle: f64,
-    sine: f64,
-    cosine: f64,
+    angle: Angle,
     dim: u64,
 ) -> PrecomputedActivePauliRotationKernel
-    ensures { result ≡ rotation_kernel dim action phase kernel_angle sine cosine }
+    ensures { result ≡ rotation_kernel dim action phase angle.value angle.sine angle.cosine }
 {
     let mut kernel = PrecomputedActivePauliRotationKernel {
         action,
@@ -159,10 +151,10 @@ fn rotation_kernel(
         real_pair_flip: false,
         pair_bit: 0,
         pair_count: 0,
-        kernel_angle,
-        cos_kernel_angle: cosine,
-        sin_kernel_angle: sine,
-        minus_even_coefficient: rotation_coefficient(action.even_phase, sine),
+        kernel_angle: angle.value,
+        cos_kernel_angle: angle.cosine,
+        sin_kernel_angle: angle.sine,
+        minus_even_coefficient: rotation_coefficient(action.even_phase, angle.sine),
     };
     if action.xmask == 0 {
         return kernel;
@@ -176,29 +168,17 @@ fn rotation_kernel(
 }
 
 impl PrecomputedActivePauliRotationKernel {
-    // The rotation kernel of an action with this phase exponent, its angle, sine and cosine.
+    // The rotation kernel of an action with this phase exponent and angle.
     pub fn new(
         action: ActivePauliAction,
         phase: u64,
-        kernel_angle: f64,
-        sine: f64,
-        cosine: f64,
+        angle: Angle,
         limit: u64,
-    ) -> RotationKernel
-        ensures { rotation_of result ≡ rotation limit action phase kernel_angle sine cosine }
+    ) -> Result<Self, Reason>
+        ensures { answer_of result ≡ rotation limit action phase angle.value angle.sine angle.cosine }
     {
-        let length = active_length(action.nqubits, limit);
-        match length {
-            ActiveLength::TooLarge => RotationKernel::TooLarge,
-            ActiveLength::Length(dim) => RotationKernel::Built(rotation_kernel(
-                action,
-                phase,
-                kernel_angle,
-                sine,
-                cosine,
-                dim,
-            )),
-        }
+        let dim = action.dimension(limit)?;
+        Ok(rotation_kernel(action, phase, angle, dim))
     }
 }
 
@@ -213,13 +193,17 @@ fn measurement_coefficient(even_phase: Complex64) -> Complex64
 }
 
 // The kernel of a measurement with X bits.
-fn nondiagonal_kernel(action: ActivePauliAction, pivot: u64, dim: u64) -> MeasurementKernel
-    ensures { measurement_of result ≡ nondiagonal dim action pivot }
+fn nondiagonal_kernel(
+    action: ActivePauliAction,
+    pivot: u64,
+    dim: u64,
+) -> Result<PrecomputedActivePauliMeasurementKernel, Reason>
+    ensures { answer_of result ≡ nondiagonal dim action pivot }
 {
     if bit_at(action.xmask, pivot) == 0 {
-        return MeasurementKernel::PivotWithoutX;
+        return Err(Reason::PivotX);
     }
-    MeasurementKernel::Built(PrecomputedActivePauliMeasurementKernel {
+    Ok(PrecomputedActivePauliMeasurementKernel {
         action,
         pivot,
         is_diagonal: false,
@@ -231,16 +215,21 @@ fn nondiagonal_kernel(action: ActivePauliAction, pivot: u64, dim: u64) -> Measur
 }
 
 // The kernel of a measurement with Z bits alone.
-fn diagonal_kernel(action: ActivePauliAction, phase: u64, pivot: u64, dim: u64) -> MeasurementKernel
-    ensures { measurement_of result ≡ diagonal dim action phase pivot }
+fn diagonal_kernel(
+    action: ActivePauliAction,
+    phase: u64,
+    pivot: u64,
+    dim: u64,
+) -> Result<PrecomputedActivePauliMeasurementKernel, Reason>
+    ensures { answer_of result ≡ diagonal dim action phase pivot }
 {
     if bit_at(action.zmask, pivot) == 0 {
-        return MeasurementKernel::PivotWithoutZ;
+        return Err(Reason::PivotZ);
     }
     if phase % 2 == 1 {
-        return MeasurementKernel::ImaginaryPhase;
+        return Err(Reason::Eigenvalues);
     }
-    MeasurementKernel::Built(PrecomputedActivePauliMeasurementKernel {
+    Ok(PrecomputedActivePauliMeasurementKernel {
         action,
         pivot,
         is_diagonal: true,
@@ -258,21 +247,16 @@ impl PrecomputedActivePauliMeasurementKernel {
         phase: u64,
         pivot: u64,
         limit: u64,
-    ) -> MeasurementKernel
-        ensures { measurement_of result ≡ measurement limit action phase pivot }
+    ) -> Result<Self, Reason>
+        ensures { answer_of result ≡ measurement limit action phase pivot }
     {
-        let length = active_length(action.nqubits, limit);
-        match length {
-            ActiveLength::TooLarge => MeasurementKernel::TooLarge,
-            ActiveLength::Length(dim) => {
-                if action.xmask != 0 {
-                    nondiagonal_kernel(action, pivot, dim)
-                } else if action.zmask != 0 {
-                    diagonal_kernel(action, phase, pivot, dim)
-                } else {
-                    MeasurementKernel::Identity
-                }
-            }
+        let dim = action.dimension(limit)?;
+        if action.xmask != 0 {
+            nondiagonal_kernel(action, pivot, dim)
+        } else if action.zmask != 0 {
+            diagonal_kernel(action, phase, pivot, dim)
+        } else {
+            Err(Reason::Identity)
         }
     }
 }

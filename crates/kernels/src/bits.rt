@@ -1,19 +1,12 @@
 // Words as sets of bits, and powers of two as floats and as dimensions.
 ghost use Rattle.std.specs.Prelude.{◌≡◌};
-ghost use Rattle.kernels.specs.Bits.{odd_ones, highest_bit, bit_at, without_bit, exp2, dimension, dimension_of};
-
-// The number of amplitudes of a register, or that the register is too wide.
-#[derive(Clone, Copy)]
-pub enum ActiveLength {
-    Length(u64),
-    TooLarge,
-}
+ghost use Rattle.kernels.specs.Bits.{odd_ones, highest_bit, bit_at, without_bit, exp2, dimension};
 
 // Whether the set bits of a word are odd in number.
 pub fn is_odd_popcount(value: u64) -> bool
     ensures { result ≡ odd_ones value }
 {
-    u64::count_ones(value) % 2 == 1
+    value.count_ones() % 2 == 1
 }
 
 // The place of the highest set bit of a word, and 0 for the word 0.
@@ -24,7 +17,7 @@ pub fn highest_set_bit(value: u64) -> u64
     if value == 0 {
         return 0;
     }
-    63 - u64::leading_zeros(value) as u64
+    63 - u64::from(value.leading_zeros())
 }
 
 // The bit of a word at a place, 0 or 1, and 0 past the word's end.
@@ -53,21 +46,18 @@ pub fn exact_exp2(k: u64) -> f64
     ensures { result ≡ exp2 k }
 {
     if 1023 < k {
-        return f64::from_bits(0x7FF0_0000_0000_0000);
+        return f64::INFINITY;
     }
     f64::from_bits((k + 1023) * 0x0010_0000_0000_0000)
 }
 
 // The number of amplitudes of k coordinates: 2 to the k below the limit, where a word holds it.
 #[tactic(auto, unfolding(crate::specs::Bits::dimension))]
-pub fn active_length(k: u64, limit: u64) -> ActiveLength
-    ensures { dimension_of result ≡ dimension limit k }
+pub fn active_length(k: u64, limit: u64) -> Option<u64>
+    ensures { result ≡ dimension limit k }
 {
-    if limit <= k {
-        return ActiveLength::TooLarge;
+    if limit <= k || 64 <= k {
+        return None;
     }
-    if 64 <= k {
-        return ActiveLength::TooLarge;
-    }
-    ActiveLength::Length(1 << k)
+    Some(1 << k)
 }

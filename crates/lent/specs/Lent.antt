@@ -1,18 +1,17 @@
 -- What the contracts of the crate `lent` say: refusals 24 and 1 to 4, and what the seven buffers hold once the words behind the used ones, or all, are zeroed.
-use Rattle.std.specs.Prelude.{◌≡◌, ℕ, ◌-◌, ◌*◌, ◌%◌, ◌^◌, ◌<◌, Bool, cond, not, ◌||◌, List, ◌++◌, length, take, replicate, ◌==◌, nat_lt}
-use Rattle.std.proofs.Math.Option.{Option, some, none}
-use Rattle.kernels.specs.Active.{Answer, given, refused}
+use Rattle.std.specs.Prelude.{◌≡◌, ℕ, ◌-◌, ◌*◌, ◌%◌, ◌^◌, ◌<◌, Bool, cond, not, ◌||◌, List, ◌++◌, length, take, replicate, ◌==◌, nat_lt, Option, Some, None}
+use Rattle.refusals.specs.Answer.{Answer, given, refused}
 use Rattle.records.specs.declared.Head.{Head}
 use Rattle.definition.specs.Plan.{Result, held_after, max_dimension, ceiling_refused}
-use Rattle.walk.specs.Walking.{Buffers}
+use Rattle.outputs.specs.Outputs.{Buffers}
 use Rattle.walk.specs.declared.Summary.{Summary}
 use Rattle.lent.specs.declared.DensePeak.{DensePeak}
 use Rattle.lent.specs.declared.DensePeak.TheVariants.{Given, Refused}
 
 -- 1: "max_k >= 62", which is the ceiling since 02's CR 4; else the dense peak
 abbrev pub peak_answer : Option ℕ → Answer ℕ
-peak_answer none = refused 1
-peak_answer (some dense_peak) = given dense_peak
+peak_answer None = refused 1
+peak_answer (Some dense_peak) = given dense_peak
 
 -- 02, CR 4: "A ceiling outside 1 to 62 gives 24, before 1"
 abbrev pub head_answer : Head → Answer ℕ

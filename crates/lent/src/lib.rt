@@ -6,7 +6,7 @@ ghost use Rattle.std.specs.Prelude.{◌≡◌, ◌^◌, ◌<◌};
 ghost use Rattle.definition.specs.Plan.{chosen, buffers_refused, refused_at};
 ghost use Rattle.lent.specs.Lent.{head_answer, dense_peak_of, Held, lent_number, UsedFit, RestCleared};
 
-use kernels::bits::{ActiveLength, active_length};
+use kernels::bits::active_length;
 use outputs::buffers::clear_from;
 use records::Head;
 use walk::Summary;
@@ -33,10 +33,9 @@ pub fn dense_peak(head: Head) -> DensePeak
     if LARGEST_CEILING < ceiling {
         return DensePeak::Refused(24);
     }
-    let length = active_length(max_k, ceiling);
-    match length {
-        ActiveLength::TooLarge => DensePeak::Refused(1),
-        ActiveLength::Length(dense_peak) => DensePeak::Given(dense_peak),
+    match active_length(max_k, ceiling) {
+        None => DensePeak::Refused(1),
+        Some(dense_peak) => DensePeak::Given(dense_peak),
     }
 }
 

@@ -5,7 +5,7 @@ use Rattle.definition.specs.Lists.{numbers_from}
 use Rattle.definition.specs.WholeWorks.{whole_words}
 use Rattle.definition.specs.Walk.{flag_word, bits_word}
 use Rattle.definition.specs.Plan.{plan_of}
-use Rattle.walk.specs.Walking.{Buffers, lengths_of}
+use Rattle.outputs.specs.Outputs.{Buffers, lengths_of}
 use Rattle.lent.specs.Lent.{Held}
 use Rattle.answer.specs.Outcome.{Outcome, accepted, turned_away, outcome_in}
 

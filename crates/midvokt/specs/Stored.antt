@@ -2,7 +2,7 @@
 use Rattle.std.specs.Prelude.{ℕ, ◌≡◌, List, [], ◌∷◌, ◌++◌, length, replicate}
 use Rattle.records.specs.declared.Head.{Head}
 use Rattle.definition.specs.Plan.{held_after}
-use Rattle.walk.specs.Walking.{Buffers, lengths_of}
+use Rattle.outputs.specs.Outputs.{Buffers, lengths_of}
 use Rattle.lent.specs.Lent.{Held}
 use Rattle.stored_plan.specs.Stored.{file_of}
 use Rattle.stored_plan.specs.Reading.{read_file}

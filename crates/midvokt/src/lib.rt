@@ -13,7 +13,7 @@ ghost use Rattle.midvokt.specs.Reply.{Replies, number_of, words_of, laid_out};
 use answer::{ActiveComponentPlan, Planned};
 use component_plan::build_active_component_plan;
 use records::Head;
-use rows::{flag_word, float_bits};
+use rows::float_bits;
 use tally::WholeWorks;
 
 // 0 for a plan, and else the refusal's number.
@@ -58,7 +58,7 @@ fn plan_word(plan: ActiveComponentPlan, i: usize) -> u64
     ensures { result ≡ get_or (words_of (outcome_of (Planned.Plan plan))) i 0 }
 {
     match i {
-        1 => flag_word(plan.selected),
+        1 => u64::from(plan.selected),
         2 => plan.initial_components,
         3 => plan.component_count,
         4 => float_bits(plan.estimated_dense_work),

@@ -1,14 +1,17 @@
 -- Loops over a list: zeros stored from a place on, and a sum over the first entries.
 -- Assumes nothing.
-use mathlib.Core.Path.{◌≡◌, sym, ap, ◌∙◌}
+use mathlib.Core.Path.{◌≡◌, refl, sym, ap, ◌∙◌}
 use mathlib.Core.List.{List, [], ◌∷◌, ◌++◌, map, append-nil, append_assoc}
-use Prim.Native.Nat.{ℕ, zero, suc, ◌+◌, ◌-◌, ◌^◌, ◌≤◌, ◌<◌, min}
-use native.Mathlib.Nat.{not-suc-le-zero, le_of_suc-le-suc, sub_self}
+use Prim.Native.Nat.{ℕ, ◌+◌, ◌-◌, ◌^◌, ◌≤◌, ◌<◌, min}
+use native.Mathlib.Nat.{sub_self}
 use native.Mathlib.Numerals.{add-one}
 use native.Mathlib.Omega.{arith}
-use lib.ListN.{length, get_or, set, take, replicate, replicate-append-replicate}
+use lib.ListN.{length, set, take, replicate, replicate-append-replicate}
 use lib.Seq.{take_all, take-suc-set}
+use Rattle.std.specs.List.{sum_by}
+use Rattle.std.proofs.lemmas.List.Sums.{sum_by-cons}
 use Rattle.definition.specs.Lists.{total}
+use Rattle.definition.specs.Components.{allocated_for}
 
 -- ---- zeros from a place on: the entries that were passed
 
@@ -29,18 +32,12 @@ pub clear_all : (xs ys : List ℕ) (from i : ℕ) → length ys ≤ i → i - fr
     → ys ≡ take from xs ++ replicate (length xs - from) 0
 clear_all xs ys from i l n e = sym (take_all i ys l) ∙ e ∙ ap (λ (k : ℕ). take from xs ++ replicate k 0) n
 
--- ---- the sum over one entry more
+-- ---- a sum of powers in std's words
 
-total_more : (f : ℕ → ℕ) (xs : List ℕ) (i : ℕ) → i < length xs → total (map f (take (suc i) xs)) ≡ total (map f (take i xs)) + f (get_or xs i 0)
-total_more f [] i l = absurd (not-suc-le-zero l)
-total_more f (x ∷ xs) zero l = omega arith
-total_more f (x ∷ xs) (suc i) l = let h = total_more f xs i (le_of_suc-le-suc l) in omega arith
+total_sum : (f : ℕ → ℕ) (xs : List ℕ) → total (map f xs) ≡ sum_by f xs
+total_sum f [] = refl
+total_sum f (x ∷ xs) = omega (arith, total_sum f xs, sum_by-cons f x xs)
 
-abbrev pub powers : List ℕ → ℕ
-powers xs = total (map (λ l. 2 ^ l) xs)
-
-pub sum_more : (xs : List ℕ) (i sum r b : ℕ) → i < length xs → b ≡ 2 ^ get_or xs i 0 → sum ≡ min (2 ^ 64 - 1) (powers (take i xs)) → r ≡ min (2 ^ 64 - 1) (sum + b)
-    → r ≡ min (2 ^ 64 - 1) (powers (take (i + 1) xs))
-sum_more xs i sum r b l p e h =
-    let more : powers (take (i + 1) xs) ≡ powers (take i xs) + 2 ^ get_or xs i 0 = ap (λ (n : ℕ). powers (take n xs)) (add-one i) ∙ total_more (λ n. 2 ^ n) xs i l in
-    omega arith
+pub allocated_sum : (xs : List ℕ) → allocated_for xs ≡ min (2 ^ 64 - 1) (sum_by (λ n. 2 ^ n) xs)
+unfolding allocated_for
+allocated_sum xs = ap (λ (n : ℕ). min (2 ^ 64 - 1) n) (total_sum (λ n. 2 ^ n) xs)

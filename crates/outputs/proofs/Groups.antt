@@ -1,18 +1,16 @@
--- The groups: one component more, and one coordinate more.
--- Assumes nothing.
+-- The groups: one component more, whose words are inside those that are taken in the end, since these only grow.
 use mathlib.Core.Path.{◌≡◌, sym, ap, ◌∙◌}
 use mathlib.Core.Logic.{⊎_elim}
 use mathlib.Core.List.{List, [], ◌∷◌}
 use mathlib.Core.Bool.{Bool, true, false, cond}
 use Prim.Native.Nat.{ℕ, suc, ◌+◌, ◌-◌, ◌≤◌, ◌<◌}
 use native.Mathlib.Nat.{le_refl, le_trans, eq-zero-or-pos}
-use native.Mathlib.Numerals.{add-one}
 use native.Mathlib.Omega.{arith}
 use lib.Dec.{eqb}
 use lib.ListN.{length, get_or, set, take, drop, length-take, drop_of_length-le, get_or-eq_default}
 use lib.Seq.{drop-cons, get_or-take}
-use borrow.Author.Tests.{eq-eqb, ne_eqb}
-use Rattle.outputs.specs.Buffers.{Counts, counts_from, placed_up_to, word_at}
+use borrow.Author.Tests.{ne_eqb}
+use Rattle.outputs.specs.Buffers.{Counts, CountsFit, counts_from, counts_of}
 
 -- a component with members
 abbrev grown : ℕ → ℕ → Counts → Counts
@@ -49,44 +47,15 @@ module _ (size : List ℕ) (count c : ℕ) (groups start : List ℕ) (used : ℕ
   abbrev here : Counts
   here = record { groups = groups; start = start; used = used }
 
-  pub counts_empty : (groups' start' : List ℕ) (used' : ℕ) → get_or size c 0 ≡ 0 → groups' ≡ groups → start' ≡ start → used' ≡ used
-      → counts_from c (drop c (take count size)) here ≡ counts_from (c + 1) (drop (c + 1) (take count size)) (record { groups = groups'; start = start'; used = used' })
-  counts_empty groups' start' used' e p q r =
-      counts_go size count c here l
-      ∙ ap (λ (t : Bool). counts_from (suc c) (drop (suc c) (take count size)) (cond t here (grown c (get_or size c 0) here))) (eq-eqb _ _ e)
-      ∙ rw (add-one, p, q, r)
-
   counts_one : (get_or size c 0 ≡ 0 → ⊥) → counts_from c (drop c (take count size)) here ≡ counts_from (suc c) (drop (suc c) (take count size)) (grown c (get_or size c 0) here)
   counts_one n =
       counts_go size count c here l
       ∙ ap (λ (t : Bool). counts_from (suc c) (drop (suc c) (take count size)) (cond t here (grown c (get_or size c 0) here))) (ne_eqb _ _ n)
 
   -- the words of the component of number c are inside those that are taken in the end
-  pub counts_room : (get_or size c 0 ≡ 0 → ⊥) → used + suc (get_or size c 0) ≤ (counts_from c (drop c (take count size)) here).used
-  counts_room n =
+  pub counts_room : {groups₀ : List ℕ} → CountsFit (take count size) groups₀ → length groups ≡ length groups₀
+      → counts_from c (drop c (take count size)) here ≡ counts_of (take count size) groups₀
+      → (get_or size c 0 ≡ 0 → ⊥) → (used + suc (get_or size c 0) ≤ 65535) × (used + suc (get_or size c 0) ≤ length groups)
+  counts_room fits long all n =
       let grows = used_grows (suc c) (drop (suc c) (take count size)) (grown c (get_or size c 0) here) in
-      let same = ap (λ (h : Counts). h.used) (counts_one n) in
-      omega arith
-
-  pub counts_full : (groups' start' : List ℕ) (used' : ℕ) → (get_or size c 0 ≡ 0 → ⊥)
-      → groups' ≡ set groups used (get_or size c 0) → start' ≡ set start c (used + 1) → used' ≡ used + 1 + get_or size c 0
-      → counts_from c (drop c (take count size)) here ≡ counts_from (c + 1) (drop (c + 1) (take count size)) (record { groups = groups'; start = start'; used = used' })
-  counts_full groups' start' used' n p q r =
-      let last : used + suc (get_or size c 0) ≡ used' = omega arith in
-      counts_one n
-      ∙ ap (λ (k : ℕ). counts_from k (drop k (take count size)) (record { groups = set groups used (get_or size c 0); start = set start c (suc used); used = used + suc (get_or size c 0) })) (sym (add-one c))
-      ∙ ap (λ (g : List ℕ). counts_from (c + 1) (drop (c + 1) (take count size)) (record { groups = g; start = set start c (suc used); used = used + suc (get_or size c 0) })) (sym p)
-      ∙ ap (λ (g : List ℕ). counts_from (c + 1) (drop (c + 1) (take count size)) (record { groups = groups'; start = g; used = used + suc (get_or size c 0) })) (ap (λ (k : ℕ). set start c k) (sym (add-one used)) ∙ sym q)
-      ∙ ap (λ (k : ℕ). counts_from (c + 1) (drop (c + 1) (take count size)) (record { groups = groups'; start = start'; used = k })) last
-
-pub counts_end : (size : List ℕ) (count c : ℕ) (h : Counts) → count ≤ c → counts_from c (drop c (take count size)) h ≡ h
-counts_end size count c h l =
-    let past : length (take count size) ≤ c = omega (arith, length-take count size) in
-    ap (λ (ss : List ℕ). counts_from c ss h) (drop_of_length-le (take count size) past)
-
-module _ (start coordinate component place : List ℕ) where
-  pub placed_more : (n : ℕ) (now groups : List ℕ) → now ≡ placed_up_to start coordinate component place n groups
-      → set now (word_at start coordinate component place n) (get_or coordinate n 0) ≡ placed_up_to start coordinate component place (n + 1) groups
-  placed_more n now groups e =
-      ap (λ (l : List ℕ). set l (word_at start coordinate component place n) (get_or coordinate n 0)) e
-      ∙ ap (λ (k : ℕ). placed_up_to start coordinate component place k groups) (sym (add-one n))
+      let same = ap (λ (h : Counts). h.used) (sym all ∙ counts_one n) in (omega (arith, fits.small), omega (arith, fits.fit))

@@ -7,10 +7,8 @@ ghost use Rattle.outputs.specs.Buffers.{AllBelow, counts_of, CountsFit, placed_u
 pub fn clear_from(words: &mut [u64], from: usize)
     ensures { words.new ≡ take from words.old ++ replicate (length words.old - from) 0 }
 {
-    let mut i = from;
-    while i < words.len() {
-        words[i] = 0;
-        i += 1;
+    if from < words.len() {
+        words[from..].fill(0);
     }
 }
 
@@ -19,11 +17,7 @@ pub fn fill_ones(words: &mut [u64], n: usize)
     requires { n ≤ length words.old }
     ensures { words.new ≡ replicate n 1 ++ drop n words.old }
 {
-    let mut i: usize = 0;
-    while i < n {
-        words[i] = 1;
-        i += 1;
-    }
+    words[..n].fill(1);
 }
 
 // Raises a longest size to the size, where that is larger.
@@ -31,16 +25,7 @@ pub fn raise_size(sizes: &mut [u64], component: usize, size: u64)
     requires { component < length sizes.old }
     ensures { sizes.new ≡ set sizes.old component (max (get_or sizes.old component 0) size) }
 {
-    if sizes[component] < size {
-        sizes[component] = size;
-    }
-}
-
-// The sum of two words, or the largest word where that is smaller.
-fn saturating_add(a: u64, b: u64) -> u64
-    ensures { result ≡ min (2 ^ 64 - 1) (a + b) }
-{
-    if u64::MAX - b < a { u64::MAX } else { a + b }
+    sizes[component] = sizes[component].max(size);
 }
 
 // The sum of 2 to the power of each size, or the largest word where that is smaller.
@@ -48,17 +33,15 @@ pub fn allocated(sizes: &[u64]) -> u64
     requires { AllBelow 64 sizes.now }
     ensures { result ≡ allocated_for sizes.now }
 {
-    let mut sum: u64 = 0;
-    let mut i: usize = 0;
-    while i < sizes.len() {
-        sum = saturating_add(sum, 1u64 << sizes[i]);
-        i += 1;
+    let mut sum = 0u64;
+    for size in sizes {
+        sum = sum.saturating_add(1 << *size);
     }
     sum
 }
 
 // Where the members of each component go, and how many words the groups take.
-#[derive(Clone, Copy)]
+#[derive(Clone, Copy, Debug, PartialEq, Eq)]
 pub struct Starts {
     pub start: [u16; 512],
     pub used: usize,
@@ -74,25 +57,16 @@ pub fn write_counts(size: &[u8; 512], count: usize, groups: &mut [u64]) -> Start
         × (groups.new ≡ (counts_of (take count size.now) groups.old).groups) }
 {
     let mut start = [0u16; 512];
-    let mut used: usize = 0;
-    let mut c: usize = 0;
-    while c < count {
+    let mut used = 0usize;
+    for c in 0..count {
         let s = size[c];
         if s != 0 {
-            groups[used] = s as u64;
+            groups[used] = u64::from(s);
             start[c] = (used + 1) as u16;
-            used = used + 1 + (s as usize);
+            used += 1 + usize::from(s);
         }
-        c += 1;
     }
     Starts { start, used }
-}
-
-// A number as a word.
-fn wide(x: u16) -> u64
-    ensures { result ≡ x }
-{
-    x as u64
 }
 
 // Writes each active coordinate at its place among its component's members.
@@ -107,11 +81,9 @@ pub fn write_members<'a>(
     requires { PlacesFit start component.now place.now width (length groups.old) }
     ensures { groups.new ≡ placed_up_to start coordinate.now component.now place.now width groups.old }
 {
-    let mut p: usize = 0;
-    while p < width {
-        let c = component[p] as usize;
-        let at = (start[c] as usize) + (place[p] as usize);
-        groups[at] = wide(coordinate[p]);
-        p += 1;
+    for p in 0..width {
+        let c = usize::from(component[p]);
+        let at = usize::from(start[c]) + usize::from(place[p]);
+        groups[at] = u64::from(coordinate[p]);
     }
 }

@@ -10,14 +10,14 @@ ghost use Rattle.plan_file.specs.Writing.{scalars_in, words_for, trailer_for};
 use answer::ActiveComponentPlan;
 use file_words::{clear_bytes, put_words};
 use outputs::WordCounts;
-use rows::{flag_word, float_bits};
+use rows::float_bits;
 
 // The words of the eight scalar fields.
 fn scalar_words(plan: ActiveComponentPlan) -> [u64; 8]
     ensures { result ≡ scalars_in plan }
 {
     [
-        flag_word(plan.selected),
+        u64::from(plan.selected),
         plan.initial_components,
         plan.component_count,
         float_bits(plan.estimated_dense_work),

@@ -2,14 +2,15 @@
 -- where the readers look for them, and a row's words are read as its kernel.
 use mathlib.Core.Path.{◌≡◌, refl, ap, ◌∙◌, subst}
 use mathlib.Core.Bool.{false}
-use mathlib.Core.Option.{some, map}
+use Rattle.std.specs.Prelude.{Some}
+use Rattle.std.specs.Option.{option_map}
 use mathlib.Core.List.{List, [], ◌∷◌, ◌++◌}
 use Prim.Native.Nat.{ℕ, zero, suc, ◌*◌, ◌<◌}
 use native.Mathlib.Omega.{arith}
 use lib.Dec.{eqb}
 use lib.ListN.{length, get_or, take, drop, length-append}
 use lib.Seq.{drop-cons, length-take-le}
-use Rattle.kernels.specs.Active.{Answer, given, refused}
+use Rattle.refusals.specs.Answer.{Answer, given, refused}
 use Rattle.records.specs.Record.{instructions_of}
 use Rattle.records.specs.declared.Head.{Head}
 use Rattle.records.specs.declared.Instruction.{Instruction}
@@ -26,7 +27,7 @@ use Rattle.definition.proofs.Replay.{seam_part, seam_entry}
 use Rattle.definition.proofs.Padded.{Pads}
 use Rattle.definition.proofs.Room.{steps_count}
 use Rattle.definition.proofs.Accepted.{accepted}
-use Rattle.walk.specs.Walking.{Buffers, lengths_of}
+use Rattle.outputs.specs.Outputs.{Buffers, lengths_of}
 use Rattle.component_plan.specs.Answer.{Answers}
 use Rattle.component_plan.specs.Demand.{plan_in}
 use Rattle.answer.specs.declared.ActiveComponentPlan.{ActiveComponentPlan}
@@ -48,19 +49,19 @@ part_back xs ys held e =
     part_there held (length xs) (length ys) (omega arith) ∙ seam_part xs ys held e
 
 -- and a row, where it is of the row's length and behind i rows
-row_back : (n i : ℕ) (xs ys held : List ℕ) → length xs ≡ n * i → length ys ≡ n → Extends (xs ++ ys) held → row_at n held i ≡ some ys
+row_back : (n i : ℕ) (xs ys held : List ℕ) → length xs ≡ n * i → length ys ≡ n → Extends (xs ++ ys) held → row_at n held i ≡ Some ys
 row_back n i xs ys held at size e =
     let l = extends_length (xs ++ ys) held e in
     let m = length-append xs ys in
     let same : take n (drop (n * i) held) ≡ take (length ys) (drop (length xs) held) = rw (at, size) refl in
-    row_there n held i (omega arith) ∙ ap some (same ∙ seam_part xs ys held e)
+    row_there n held i (omega arith) ∙ ap Some (same ∙ seam_part xs ys held e)
 
 step_back : (i kind payload : ℕ) (b : Buffers) (written : List ℕ) → length written ≡ 2 * i → Extends (written ++ (kind ∷ payload ∷ [])) b.steps → StepIs b i kind payload
-step_back i kind payload b written at e = ap (map step_in) (row_back 2 i written (kind ∷ payload ∷ []) b.steps at refl e)
+step_back i kind payload b written at e = ap (option_map step_in) (row_back 2 i written (kind ∷ payload ∷ []) b.steps at refl e)
 
 -- a row behind rows of n words
 rows_back : (n : ℕ) (rows all : List (List ℕ)) (row held : List ℕ) → AllOf n rows → length row ≡ n → Extends (rows ++ (row ∷ [])) all → Extends (concat all) held
-    → row_at n held (length rows) ≡ some row
+    → row_at n held (length rows) ≡ Some row
 rows_back n rows all row held wide size e f =
     row_back n (length rows) (concat rows) row held (length_concat n rows wide) size
     (extends_trans (concat rows ++ row) (concat all) held
@@ -106,8 +107,8 @@ module _ (u : Walk) (b : Buffers) (held : Holds u.written b) (i : ℕ) where
           made = made;
           step = wrote_step 2 (length w.written.rotations) w at g.steps;
           row_is =
-              ap (map rotation_in) (rows_back 21 w.written.rotations o.rotations _ b.rotations rows long g.rotations held.rotations)
-              ∙ ap some (rotation_back j.component offset (length j.sources) k exact);
+              ap (option_map rotation_in) (rows_back 21 w.written.rotations o.rotations _ b.rotations rows long g.rotations held.rotations)
+              ∙ ap Some (rotation_back j.component offset (length j.sources) k exact);
           sources = wrote_part w j g.merges;
         },
       )
@@ -127,8 +128,8 @@ module _ (u : Walk) (b : Buffers) (held : Holds u.written b) (i : ℕ) where
         made = made;
         step = wrote_step 4 (length w.written.measurements) w at g.steps;
         row_is =
-            ap (map measurement_in) (rows_back 19 w.written.measurements o.measurements _ b.measurements outcomes long g.measurements held.measurements)
-            ∙ ap some (measurement_back j.component offset (length j.sources) k last exact);
+            ap (option_map measurement_in) (rows_back 19 w.written.measurements o.measurements _ b.measurements outcomes long g.measurements held.measurements)
+            ∙ ap Some (measurement_back j.component offset (length j.sources) k last exact);
         sources = wrote_part w j g.merges;
       }
   step_given_back {w = w} recorded floats at rows outcomes g = wrote_step 0 0 w at g.steps

@@ -2,7 +2,7 @@
 -- float that binary64 holds are read as that float. Every float of a kernel is such a float: a constant, a rounded sum or product, or a number of the record.
 use mathlib.Core.Path.{◌≡◌, refl, subst}
 use mathlib.Core.Bool.{Bool, true, false, cond, not}
-use mathlib.Core.Option.{Option, some, none}
+use Rattle.std.specs.Prelude.{Option, Some, None}
 use mathlib.Core.List.{List, ◌++◌}
 use Prim.Native.Nat.{ℕ, zero, suc, ◌%◌}
 use native.Mathlib.Omega.{arith}
@@ -12,7 +12,8 @@ use lib.Ieee.{Float, binary64, fits, neg, of_bits}
 use lib.Ieee.Bits.{of_bits-to_bits}
 use lib.Ieee.Fits.{neg-fits, add-fits, sub-fits, mul-fits}
 use Rattle.kernels.specs.Bits.{dimension, bit_at}
-use Rattle.kernels.specs.Active.{Answer, given, refused, unit_power, action, imaginary, of_dimension, rotation_kernel, rotation, measurement_kernel, measurement}
+use Rattle.refusals.specs.Answer.{Answer, given, refused}
+use Rattle.kernels.specs.Active.{unit_power, action, imaginary, of_dimension, rotation_kernel, rotation, measurement_kernel, measurement}
 use Rattle.kernels.specs.declared.active.Complex64.{Complex64}
 use Rattle.kernels.specs.declared.active.ActivePauliAction.{ActivePauliAction}
 use Rattle.kernels.specs.declared.active.PrecomputedActivePauliRotationKernel.{PrecomputedActivePauliRotationKernel}
@@ -68,12 +69,10 @@ action_back component offset count a rest h d = record {
 }
 
 pub rotation_back : (component offset count : ℕ) (k : PrecomputedActivePauliRotationKernel) → RotationFits k
-    → rotation_in (rotation_row component offset count k) ≡ record { component = component; merge_offset = offset; merge_count = count; kernel = k }
+    → rotation_in (rotation_row component offset count k) ≡ record { head = record { component = component; merge_offset = offset; merge_count = count }; kernel = k }
 unfolding rotation_in rotation_row
 rotation_back component offset count k h d = record {
-  component = component;
-  merge_offset = offset;
-  merge_count = count;
+  head = record { component = component; merge_offset = offset; merge_count = count };
   kernel = record {
     action = action_back component offset count k.action (drop 11 (rotation_row component offset count k)) h.action d;
     is_diagonal = flag_back k.is_diagonal d;
@@ -90,12 +89,10 @@ rotation_back component offset count k h d = record {
 
 pub measurement_back : (component offset count : ℕ) (k : PrecomputedActivePauliMeasurementKernel) (deactivated : Bool) → MeasurementFits k
     → measurement_in (measurement_row component offset count k deactivated)
-    ≡ record { component = component; merge_offset = offset; merge_count = count; kernel = k; deactivate_after = deactivated }
+    ≡ record { head = record { component = component; merge_offset = offset; merge_count = count }; kernel = k; deactivated = deactivated }
 unfolding measurement_in measurement_row
 measurement_back component offset count k deactivated h d = record {
-  component = component;
-  merge_offset = offset;
-  merge_count = count;
+  head = record { component = component; merge_offset = offset; merge_count = count };
   kernel = record {
     action = action_back component offset count k.action (drop 11 (measurement_row component offset count k deactivated)) h.action d;
     pivot = k.pivot;
@@ -105,7 +102,7 @@ measurement_back component offset count k deactivated h d = record {
     out_dim = k.out_dim;
     nondiagonal_coefficient1_even = complex_back h.coefficient d;
   };
-  deactivate_after = flag_back deactivated d;
+  deactivated = flag_back deactivated d;
 }
 
 -- ---- the kernels' floats
@@ -132,8 +129,8 @@ none_given : {A P : Type 0} {n : ℕ} {k : A} → refused n ≡ given k → P
 none_given e = let z : ◌≡◌ {A = ℕ} 0 1 = cc in absurd (omega arith)
 
 of_dimension_lem : {A P : Type 0} (o : Option ℕ) (f : ℕ → Answer A) (k : A) → ((n : ℕ) → f n ≡ given k → P) → of_dimension o f ≡ given k → P
-of_dimension_lem none f k g e = none_given e
-of_dimension_lem (some n) f k g e = g n e
+of_dimension_lem None f k g e = none_given e
+of_dimension_lem (Some n) f k g e = g n e
 
 pub rotation_fits : (limit w x z p : ℕ) (angle sine cosine : Float) (k : PrecomputedActivePauliRotationKernel) → FloatFits angle → FloatFits sine → FloatFits cosine
     → rotation limit (action w x z p) p angle sine cosine ≡ given k → RotationFits k

@@ -1,35 +1,34 @@
 -- What the words of a plan give back for one record, by the state in which the definition's walk comes to it: the step, the row with the definition's kernel, and the
 -- row's part of the merge list. Written from 01, section 4.
-use Rattle.std.specs.Prelude.{ℕ, ◌<◌, ◌≡◌, [], eqb, length, get_or}
-use Rattle.std.proofs.Math.Option.{Option, some}
-use Rattle.kernels.specs.Active.{Answer, given, rotation, measurement}
+use Rattle.std.specs.Prelude.{ℕ, ◌<◌, ◌≡◌, [], eqb, length, get_or, Option, Some}
+use Rattle.refusals.specs.Answer.{Answer, given}
+use Rattle.kernels.specs.Active.{rotation, measurement}
 use Rattle.kernels.specs.declared.active.PrecomputedActivePauliRotationKernel.{PrecomputedActivePauliRotationKernel}
 use Rattle.kernels.specs.declared.active.PrecomputedActivePauliMeasurementKernel.{PrecomputedActivePauliMeasurementKernel}
 use Rattle.records.specs.declared.Instruction.{Instruction}
 use Rattle.records.specs.declared.Instruction.TheVariants.{Rotation, Promotion, RecordMeasurement, RecordDetector, Measurement, Expectation, DormantBranch}
 use Rattle.definition.specs.Lists.{place_of, remove_at}
 use Rattle.definition.specs.Walk.{Walk, Join, join_of, local_action}
-use Rattle.walk.specs.Walking.{Buffers}
-use Rattle.readers.specs.declared.RotationRow.{RotationRow}
-use Rattle.readers.specs.declared.MeasurementRow.{MeasurementRow}
+use Rattle.outputs.specs.Outputs.{Buffers}
+use Rattle.rows.specs.declared.RowHead.{RowHead}
+use Rattle.rows.specs.declared.RotationRow.{RotationRow}
+use Rattle.rows.specs.declared.MeasurementRow.{MeasurementRow}
 use Rattle.readers.specs.Reading.{part_of, step_at, rotation_at, measurement_at}
 
 -- step i has this kind and payload
 abbrev pub StepIs : Buffers → ℕ → ℕ → ℕ → Type 0
-StepIs b i kind payload = step_at b.steps i ≡ some (record { kind = kind; payload = payload })
+StepIs b i kind payload = step_at b.steps i ≡ Some (record { kind = kind; payload = payload })
+
+-- what a row says of this join
+abbrev pub head_of : Walk → Join → RowHead
+head_of w j = record { component = j.component; merge_offset = length w.written.merges; merge_count = length j.sources }
 
 -- the rows of a rotation and of a measurement with this join and kernel; "An emptied component is deactivated"
 abbrev pub rotation_of : Walk → Join → PrecomputedActivePauliRotationKernel → RotationRow
-rotation_of w j k = record { component = j.component; merge_offset = length w.written.merges; merge_count = length j.sources; kernel = k }
+rotation_of w j k = record { head = head_of w j; kernel = k }
 
 abbrev pub measurement_of : Walk → Join → PrecomputedActivePauliMeasurementKernel → MeasurementRow
-measurement_of w j k = record {
-  component = j.component;
-  merge_offset = length w.written.merges;
-  merge_count = length j.sources;
-  kernel = k;
-  deactivate_after = eqb (length (remove_at k.pivot j.members)) 0;
-}
+measurement_of w j k = record { head = head_of w j; kernel = k; deactivated = eqb (length (remove_at k.pivot j.members)) 0 }
 
 -- a record that joins: its step has the kind and the row's number, the row read at that number is that of the definition's kernel, and the row's part of the merge list is
 -- the join's sources
@@ -37,7 +36,7 @@ pub record JoinBack {K R : Type 0} (b : Buffers) (i kind number : ℕ) (w : Walk
   pub kernel : K
   pub made : answer ≡ given kernel
   pub step : StepIs b i kind number
-  pub row_is : row ≡ some (row_of w j kernel)
+  pub row_is : row ≡ Some (row_of w j kernel)
   pub sources : part_of b.merges (length w.written.merges) (length j.sources) ≡ j.sources
 
 -- a rotation, where coordinates are active

@@ -3,9 +3,7 @@
 use mathlib.Core.Path.{◌≡◌, refl}
 use mathlib.Core.List.{List, [], ◌∷◌, ◌++◌, map}
 use Prim.Native.Nat.{ℕ, ◌+◌, ◌-◌, ◌^◌}
-use Rattle.records.specs.declared.Checked.{Checked}
-use Rattle.records.specs.declared.Checked.TheVariants.{Passed, Refused}
-use Rattle.records.specs.Pass.{record_pass}
+use Rattle.records.specs.Pass.{Checked, Passed, Refused, record_pass}
 
 -- floats by their bits: 1, the next float above 1, infinity and a NaN; with `sign` added, the negative ones, and -0 alone
 abbrev one : ℕ

@@ -16,10 +16,8 @@ use lib.Ieee.Fits.{and_l, and_r}
 use lib.Ieee.Bits.{to_bits-of_bits}
 use borrow.Author.Tests.{ltb-false, eqb-true}
 use Rattle.records.specs.declared.Instruction.{Instruction}
-use Rattle.records.specs.declared.Checked.{Checked}
-use Rattle.records.specs.declared.Checked.TheVariants.{Passed, Refused}
 use Rattle.records.specs.Record.{word_of, kind, width, phase, angle, sine, cosine, flag, record_at, records_of, instruction_of, instructions_of}
-use Rattle.records.specs.Pass.{one, minus_one, within_one, action_number, floats_number, or_else, rotation_number, promotion_number, measurement_number, numbers_by_kind, number_of, coordinates_after, refused_or, pass_from, record_pass}
+use Rattle.records.specs.Pass.{Checked, Passed, Refused, one, minus_one, within_one, action_number, floats_number, or_else, rotation_number, promotion_number, measurement_number, numbers_by_kind, number_of, coordinates_after, refused_or, pass_from, record_pass}
 use Rattle.records.specs.Sound.{InUnitRange, SoundAction, SoundRotation, SoundMeasurement, Sound, coordinates_through, Refusal}
 use Rattle.records.proofs.Words.{records_length, records-at}
 use Rattle.records.proofs.Steps.{pass_start, cond-true, cond-false, room}

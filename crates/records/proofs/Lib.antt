@@ -1,4 +1,5 @@
 pub mod Words
 pub mod Steps
+pub mod Floats
 pub mod Laws
 pub mod Cases

@@ -9,10 +9,8 @@ use lib.ListN.{length, drop, drop_of_length-le}
 use borrow.Author.Tests.{eq-eqb, ne_eqb, ltb-true}
 use mathlib.Core.Bool.{Bool, true, false, cond}
 use lib.Dec.{ltb}
-use Rattle.records.specs.declared.Checked.{Checked}
-use Rattle.records.specs.declared.Checked.TheVariants.{Passed, Refused}
 use Rattle.records.specs.Record.{kind, record_at, records_of}
-use Rattle.records.specs.Pass.{number_of, promotion_number, coordinates_after, refused_or, pass_from, record_pass}
+use Rattle.records.specs.Pass.{Checked, Passed, Refused, number_of, promotion_number, coordinates_after, refused_or, pass_from, record_pass}
 use Rattle.records.proofs.Words.{records_length, records_drop}
 
 pub pass_start : (k : ℕ) (ws : List ℕ) → record_pass k ws ≡ pass_from 0 k (records_of ws)

@@ -1,3 +1,4 @@
 pub mod Record
+pub mod Kinds
 pub mod Pass
 pub mod Sound

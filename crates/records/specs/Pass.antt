@@ -1,10 +1,10 @@
 -- The record pass: refusals 5 to 10. 01, "Where planning stops", the row "Record pass", unless a comment names another place.
-use Rattle.std.specs.Prelude.{ℕ, zero, suc, List, [], ◌∷◌, Bool, ◌&&◌, cond, ltb, eqb, get_or, pos, Float}
+use Rattle.std.specs.Prelude.{ℕ, zero, suc, List, [], ◌∷◌, Bool, ◌&&◌, cond, ltb, eqb, get_or, pos, Float, Result, Ok, Err}
 use Rattle.std.specs.Float.{fin}
 use Rattle.std.specs.Float.Ieee.{le, of_bits}
 use Rattle.std.specs.Float.Ieee.Scale.{finite}
-use Rattle.records.specs.declared.Checked.{Checked}
-use Rattle.records.specs.declared.Checked.TheVariants.{Passed, Refused}
+use Rattle.refusals.specs.Numbers as Reasons
+use Rattle.refusals.specs.declared.Refusal.{Refusal}
 use Rattle.records.specs.Record.{kind, width, phase, angle, sine, cosine, flag, records_of, chunks}
 
 -- 1 and -1: `fin s m e` is m * 2 ^ e, negative where s is true
@@ -55,6 +55,16 @@ number_of coordinates r = get_or (numbers_by_kind coordinates r) (kind r) 5
 -- a promotion makes one coordinate (01, section 4)
 abbrev pub coordinates_after : (coordinates : ℕ) → List ℕ → ℕ
 coordinates_after coordinates r = cond (eqb (kind r) 1) (suc coordinates) coordinates
+
+-- the record pass's answer: "A refusal returns its number and record index"
+pub data Checked : Type 0 where
+  Passed : Checked
+  Refused : (number index : ℕ) → Checked
+
+-- of the code's answer
+abbrev pub checked_of : Result Unit Refusal → Checked
+checked_of (Ok done) = Passed
+checked_of (Err refusal) = Refused (Reasons.number_of refusal.reason) refusal.index
 
 -- "A refusal returns its number and record index": of a record with the number n, before the rest
 unfoldable pub refused_or : (number index : ℕ) → Checked → Checked

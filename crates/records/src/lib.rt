@@ -2,12 +2,15 @@
 // "Where planning stops", refusals 5 to 10).
 #![tactic(auto)]
 
-ghost use Rattle.std.specs.Prelude.{◌≡◌, ◌<◌};
+ghost use Rattle.std.specs.Prelude.{◌≡◌, ◌&&◌};
 ghost use Rattle.std.specs.Float.{binary64};
 ghost use Rattle.std.specs.Float.Ieee.{of_bits};
 ghost use Rattle.std.specs.Float.Ieee.Scale.{finite};
+ghost use Rattle.refusals.specs.Answer.{number_or_0};
 ghost use Rattle.records.specs.Record.{word_of, record_at, instruction_of, measurement_of};
-ghost use Rattle.records.specs.Pass.{within_one, action_number, floats_number, rotation_number, measurement_number, number_of, record_pass};
+ghost use Rattle.records.specs.Pass.{within_one, action_number, floats_number, rotation_number, promotion_number, measurement_number, number_of, checked_of, record_pass};
+
+use refusals::{Reason, Refusal};
 
 // The head of a program (01, section 2; the ceiling: 02, CR 4).
 #[derive(Clone, Copy)]
@@ -44,23 +47,55 @@ pub enum Instruction {
     DormantBranch,
 }
 
-// The record pass's answer: a refusal has its number and its record's index.
-#[derive(Clone, Copy)]
-pub enum Checked {
-    Passed,
-    Refused { number: u64, index: u64 },
+// The kinds of records by their numbers, from 0 on (01, section 2).
+#[derive(Clone, Copy, Debug, PartialEq, Eq)]
+pub enum Kind {
+    Rotation,
+    Promotion,
+    RecordMeasurement,
+    RecordDetector,
+    ActiveMeasurement,
+    DormantBranch,
 }
 
-// Word j of record i, and 0 past the end.
-fn word(words: &[u64], i: usize, j: usize) -> u64
-    requires { j < 8 }
-    ensures { result ≡ word_of (record_at words.now i) j }
+impl TryFrom<u64> for Kind {
+    type Error = Reason;
+
+    ghost use Rattle.std.specs.Prelude.{◌≡◌};
+    ghost use Rattle.records.specs.Kinds.{kind_in};
+
+    ghost try_from_gives = { λ number r. r ≡ kind_in number };
+
+    fn try_from(number: u64) -> Result<Kind, Reason> {
+        match number {
+            0 => Ok(Kind::Rotation),
+            1 => Ok(Kind::Promotion),
+            2 => Ok(Kind::RecordMeasurement),
+            3 => Ok(Kind::RecordDetector),
+            4 => Ok(Kind::ActiveMeasurement),
+            5 => Ok(Kind::DormantBranch),
+            _ => Err(Reason::Kind),
+        }
+    }
+}
+
+// The words of record i; those past the end are missing.
+fn record_at(words: &[u64], i: usize) -> &[u64]
+    ensures { result.now ≡ record_at words.now i }
 {
     if words.len() / 8 < i {
-        return 0;
+        return &words[..0];
     }
-    let at = 8 * i + j;
-    if at < words.len() { words[at] } else { 0 }
+    let from = 8 * i;
+    let behind = (words.len() - from).min(8);
+    &words[from..from + behind]
+}
+
+// Word j of a record, and 0 where it is missing.
+fn word(fields: &[u64], j: usize) -> u64
+    ensures { result ≡ word_of fields.now j }
+{
+    fields.get(j).copied().unwrap_or(0)
 }
 
 // The binary64 value that the bits stand for; each NaN pattern is the one NaN.
@@ -68,34 +103,56 @@ pub fn float_of(bits: u64) -> f64
     ensures { result ≡ of_bits binary64 bits }
 {
     if 0x7ff0_0000_0000_0000 < bits % 0x8000_0000_0000_0000 {
-        0.0 / 0.0
+        f64::NAN
     } else {
         f64::from_bits(bits)
     }
 }
 
-// The float of word j of record i.
-fn float_word(words: &[u64], i: usize, j: usize) -> f64
-    requires { j < 8 }
-    ensures { result ≡ of_bits binary64 (word_of (record_at words.now i) j) }
+// The float of word j of a record.
+fn float_word(fields: &[u64], j: usize) -> f64
+    ensures { result ≡ of_bits binary64 (word_of fields.now j) }
 {
-    float_of(word(words, i, j))
+    float_of(word(fields, j))
 }
 
-// Record i, where its kind is a measurement's.
-fn read_measurement(words: &[u64], i: usize) -> Instruction
-    ensures { result ≡ measurement_of (record_at words.now i) }
+// A record, where its kind is a measurement's.
+#[tactic(auto, unfolding(crate::specs::Record::measurement_of))]
+fn read_measurement(fields: &[u64]) -> Instruction
+    ensures { result ≡ measurement_of fields.now }
 {
-    if word(words, i, 6) == 0 {
-        Instruction::Measurement {
-            width: word(words, i, 1),
-            x: word(words, i, 2),
-            z: word(words, i, 3),
-            phase: word(words, i, 4),
-            pivot: word(words, i, 5),
-        }
-    } else {
-        Instruction::Expectation
+    if word(fields, 6) != 0 {
+        return Instruction::Expectation;
+    }
+    Instruction::Measurement {
+        width: word(fields, 1),
+        x: word(fields, 2),
+        z: word(fields, 3),
+        phase: word(fields, 4),
+        pivot: word(fields, 5),
+    }
+}
+
+// A record, decoded.
+#[tactic(auto, unfolding(crate::specs::Record::instruction_of))]
+fn read_record(fields: &[u64]) -> Instruction
+    ensures { result ≡ instruction_of fields.now }
+{
+    match Kind::try_from(word(fields, 0)) {
+        Ok(Kind::Rotation) => Instruction::Rotation {
+            width: word(fields, 1),
+            x: word(fields, 2),
+            z: word(fields, 3),
+            phase: word(fields, 4),
+            angle: float_word(fields, 5),
+            sine: float_word(fields, 6),
+            cosine: float_word(fields, 7),
+        },
+        Ok(Kind::Promotion) => Instruction::Promotion,
+        Ok(Kind::RecordMeasurement) => Instruction::RecordMeasurement,
+        Ok(Kind::RecordDetector) => Instruction::RecordDetector,
+        Ok(Kind::ActiveMeasurement) => read_measurement(fields),
+        Ok(Kind::DormantBranch) | Err(_) => Instruction::DormantBranch,
     }
 }
 
@@ -103,30 +160,7 @@ fn read_measurement(words: &[u64], i: usize) -> Instruction
 pub fn read(words: &[u64], i: usize) -> Instruction
     ensures { result ≡ instruction_of (record_at words.now i) }
 {
-    let kind = word(words, i, 0);
-    match kind {
-        0 => Instruction::Rotation {
-            width: word(words, i, 1),
-            x: word(words, i, 2),
-            z: word(words, i, 3),
-            phase: word(words, i, 4),
-            angle: float_word(words, i, 5),
-            sine: float_word(words, i, 6),
-            cosine: float_word(words, i, 7),
-        },
-        1 => Instruction::Promotion,
-        2 => Instruction::RecordMeasurement,
-        3 => Instruction::RecordDetector,
-        4 => read_measurement(words, i),
-        _ => Instruction::DormantBranch,
-    }
-}
-
-// Whether x is neither infinite nor NaN.
-fn is_finite(x: f64) -> bool
-    ensures { result ≡ finite x }
-{
-    -1.0 / 0.0 < x && x < 1.0 / 0.0
+    read_record(record_at(words, i))
 }
 
 // Whether x is in -1 to 1.
@@ -136,96 +170,100 @@ fn within_one(x: f64) -> bool
     -1.0 <= x && x <= 1.0
 }
 
-// Refusal 6 or 7 of record i's width and phase, or 0.
+// Refusal 6 or 7 of a record's width and phase.
 #[tactic(auto, unfolding(crate::specs::Pass::action_number))]
-fn check_action(words: &[u64], i: usize) -> u64
-    ensures { result ≡ action_number (record_at words.now i) }
+fn check_action(fields: &[u64]) -> Result<(), Reason>
+    ensures { number_or_0 result ≡ action_number fields.now }
 {
-    if 62 < word(words, i, 1) {
-        return 6;
+    if 62 < word(fields, 1) {
+        return Err(Reason::Width);
     }
-    if 3 < word(words, i, 4) { 7 } else { 0 }
+    if 3 < word(fields, 4) {
+        return Err(Reason::Phase);
+    }
+    Ok(())
 }
 
-// Refusal 8 of record i's angle, sine and cosine, or 0.
-fn check_floats(words: &[u64], i: usize) -> u64
-    ensures { result ≡ floats_number (record_at words.now i) }
+// Whether the angle is finite, and sine and cosine are in -1 to 1.
+#[tactic(auto, using(crate::proofs::Floats::finite_is))]
+fn floats_sound(angle: f64, sine: f64, cosine: f64) -> bool
+    ensures { result ≡ (finite angle && (within_one sine && within_one cosine)) }
 {
-    if !is_finite(float_word(words, i, 5)) {
-        return 8;
-    }
-    if !within_one(float_word(words, i, 6)) {
-        return 8;
-    }
-    if within_one(float_word(words, i, 7)) {
-        0
-    } else {
-        8
-    }
+    angle.is_finite() && within_one(sine) && within_one(cosine)
 }
 
-// The refusal of record i, where its kind is a rotation's, or 0.
+// Refusal 8 of a record's angle, sine and cosine.
+#[tactic(auto, unfolding(crate::specs::Pass::floats_number))]
+fn check_floats(fields: &[u64]) -> Result<(), Reason>
+    ensures { number_or_0 result ≡ floats_number fields.now }
+{
+    let sound = floats_sound(
+        float_word(fields, 5),
+        float_word(fields, 6),
+        float_word(fields, 7),
+    );
+    if sound { Ok(()) } else { Err(Reason::Floats) }
+}
+
+// The refusal of a record whose kind is a rotation's.
 #[tactic(auto, unfolding(crate::specs::Pass::rotation_number, crate::specs::Pass::or_else))]
-fn check_rotation(words: &[u64], i: usize) -> u64
-    ensures { result ≡ rotation_number (record_at words.now i) }
+fn check_rotation(fields: &[u64]) -> Result<(), Reason>
+    ensures { number_or_0 result ≡ rotation_number fields.now }
 {
-    let number = check_action(words, i);
-    if number == 0 {
-        check_floats(words, i)
+    check_action(fields)?;
+    check_floats(fields)
+}
+
+// Refusal 10 of a promotion after so many coordinates.
+#[tactic(auto, unfolding(crate::specs::Pass::promotion_number))]
+fn check_promotion(coordinates: u64) -> Result<(), Reason>
+    ensures { number_or_0 result ≡ promotion_number coordinates }
+{
+    if coordinates < 512 {
+        Ok(())
     } else {
-        number
+        Err(Reason::Promotion)
     }
 }
 
-// The refusal of record i, where its kind is a measurement's, or 0.
+// The refusal of a record whose kind is a measurement's.
 #[tactic(auto, unfolding(crate::specs::Pass::measurement_number))]
-fn check_measurement(words: &[u64], i: usize) -> u64
-    ensures { result ≡ measurement_number (record_at words.now i) }
+fn check_measurement(fields: &[u64]) -> Result<(), Reason>
+    ensures { number_or_0 result ≡ measurement_number fields.now }
 {
-    let expectation = word(words, i, 6);
-    match expectation {
-        0 => check_action(words, i),
-        1 => 0,
-        _ => 9,
+    match word(fields, 6) {
+        0 => check_action(fields),
+        1 => Ok(()),
+        _ => Err(Reason::Flag),
     }
 }
 
-// The refusal of record i after so many coordinates, or 0.
-#[tactic(auto, unfolding(crate::specs::Pass::number_of, crate::specs::Pass::promotion_number))]
-fn check_record(words: &[u64], i: usize, coordinates: u64) -> u64
-    ensures { result ≡ number_of coordinates (record_at words.now i) }
+// The refusal of a record after so many coordinates.
+#[tactic(auto, unfolding(crate::specs::Pass::number_of))]
+fn check_record(fields: &[u64], coordinates: u64) -> Result<(), Reason>
+    ensures { number_or_0 result ≡ number_of coordinates fields.now }
 {
-    let kind = word(words, i, 0);
-    match kind {
-        0 => check_rotation(words, i),
-        1 => if coordinates < 512 { 0 } else { 10 },
-        2 => 0,
-        3 => 0,
-        4 => check_measurement(words, i),
-        5 => 0,
-        _ => 5,
+    match Kind::try_from(word(fields, 0))? {
+        Kind::Rotation => check_rotation(fields),
+        Kind::Promotion => check_promotion(coordinates),
+        Kind::ActiveMeasurement => check_measurement(fields),
+        Kind::RecordMeasurement | Kind::RecordDetector | Kind::DormantBranch => Ok(()),
     }
 }
 
 // The first refusal 5 to 10 with its record's index, over the whole records.
-pub fn check_records(words: &[u64], initial_k: u64) -> Checked
-    ensures { result ≡ record_pass initial_k words.now }
+pub fn check_records(words: &[u64], initial_k: u64) -> Result<(), Refusal>
+    ensures { checked_of result ≡ record_pass initial_k words.now }
 {
-    let count = words.len() / 8;
     let mut coordinates = initial_k;
-    let mut i: usize = 0;
-    while i < count {
-        let number = check_record(words, i, coordinates);
-        if number != 0 {
-            return Checked::Refused {
-                number,
-                index: i as u64,
-            };
+    for i in 0..words.len() / 8 {
+        let fields = record_at(words, i);
+        if let Err(reason) = check_record(fields, coordinates) {
+            return Err(reason.at(i));
         }
-        if word(words, i, 0) == 1 {
+        if word(fields, 0) == 1 {
             coordinates += 1;
         }
-        i += 1;
     }
-    Checked::Passed
+    Ok(())
 }

@@ -3,72 +3,68 @@
 // and describes them.
 #![tactic(auto)]
 
-ghost use Rattle.std.specs.Prelude.{◌≡◌, true, false, ◌+◌, ◌≤◌, ◌<◌, length, get_or};
+ghost use Rattle.std.specs.Prelude.{◌≡◌, ◌≤◌, true, length, OnOk, IfOk};
 ghost use Rattle.definition.specs.Plan.{padded};
 ghost use Rattle.replay.specs.Head.{HasRoom};
 
 use midvokt::midvokt_plan;
-use std::io;
-use std::io::{ErrorKind, Read};
+use std::alloc::{AllocError, Global};
+use std::io::{BufReader, ErrorKind, Read};
+use std::{fmt, io};
 
-// What was found of a vector: it was read, and whether it agrees as far as it was compared; or why it was not read.
-#[derive(Clone, Copy)]
-enum Found {
-    Read(bool),
+// The most words that the records or a buffer may have.
+const LONGEST: u64 = 4096;
+
+// Why a vector is not read.
+#[derive(Debug, Drop)]
+enum ReplayError {
     TooLong,
     CutShort,
+    Io(io::Error),
 }
 
-// A byte as a word.
-fn wide(byte: u8) -> u64 {
-    byte as u64
-}
-
-// The word of the eight bytes from a place on, the lowest first.
-fn word_at(bytes: &[u8; 65536], at: usize) -> u64
-    requires { at + 8 ≤ 65536 }
-{
-    let mut word: u64 = 0;
-    let mut k: usize = 8;
-    while 0 < k {
-        k -= 1;
-        word = (word << 8) | wide(bytes[at + k]);
-    }
-    word
-}
-
-// Room for the records, a buffer, or what it should hold, with no zero in it.
-fn room() -> [u64; 4096]
-    ensures { 4096 ≡ length result }
-{
-    [7; 4096]
-}
-
-// Reads words until the slice is full; whether there were that many.
-fn read_words(input: &mut impl Read, words: &mut [u64]) -> io::Result<bool>
-    requires { length words.old ≤ 4096 }
-{
-    let mut bytes = [0u8; 65536];
-    let n = words.len() * 8;
-    if let Err(error) = input.read_exact(&mut bytes[0..n]) {
-        if error.kind() == ErrorKind::UnexpectedEof {
-            return Ok(false);
+impl fmt::Display for ReplayError {
+    fn fmt<W: fmt::Write>(&self, f: &mut fmt::Formatter<W>) -> fmt::Result {
+        match self {
+            ReplayError::TooLong => write!(f, "too long"),
+            ReplayError::CutShort => write!(f, "the list ends"),
+            ReplayError::Io(error) => write!(f, "{error}"),
         }
-        return Err(error);
     }
-    let mut i: usize = 0;
-    while i < words.len() {
-        words[i] = word_at(&bytes, i * 8);
-        i += 1;
-    }
-    Ok(true)
 }
 
-// The word at a place of a list, and 0 behind its end.
-fn word_or_0(words: &[u64], at: usize) -> u64
-    ensures { result ≡ get_or words.now at 0 }
+impl From<io::Error> for ReplayError {
+    fn from(error: io::Error) -> ReplayError {
+        if error.kind() == ErrorKind::UnexpectedEof {
+            ReplayError::CutShort
+        } else {
+            ReplayError::Io(error)
+        }
+    }
+}
+
+impl From<AllocError> for ReplayError {
+    fn from(error: AllocError) -> ReplayError {
+        ReplayError::Io(io::Error::from(error))
+    }
+}
+
+// Reads a word of eight bytes, the lowest first.
+fn read_word(input: &mut impl Read) -> Result<u64, ReplayError> {
+    let mut bytes = [0u8; 8];
+    input.read_exact(&mut bytes)?;
+    Ok(u64::from_le_bytes(bytes))
+}
+
+// Reads so many words.
+fn read_words(alloc: Global, input: &mut impl Read, count: u64) -> Result<Vec<u64>, ReplayError>
+    ensures { IfOk result (λ words. length words.items ≡ count) }
 {
-    if at < words.len() { words[at] } else { 0 }
+    let mut words = vec![in alloc; 0u64; count as usize]?;
+    for word in words.iter_mut() {
+        *word = read_word(input)?;
+    }
+    Ok(words)
 }
 
 // Whether a buffer holds the used words and zeros behind them, and nothing else.
@@ -79,204 +75,162 @@ fn holds(buffer: &[u64], used: &[u64]) -> bool
     if buffer.len() < used.len() {
         return false;
     }
-    let mut at: usize = 0;
-    while at < buffer.len() {
-        if buffer[at] != word_or_0(used, at) {
+    for (at, word) in buffer.iter().enumerate() {
+        if *word != used.get(at).copied().unwrap_or(0) {
             return false;
         }
-        at += 1;
     }
     true
 }
 
-// Whether the records or a buffer have more words than an array here.
-fn too_long(head: &[u64; 12]) -> bool
-    ensures { result ≡ false → HasRoom head.now }
+// Refuses a head by which the records or a buffer are too long.
+fn check_lengths(head: &[u64; 12]) -> Result<(), ReplayError>
+    ensures { OnOk result (HasRoom head.now) }
 {
-    let mut i: usize = 4;
-    while i < 12 {
-        if 4096 < head[i] {
-            return true;
+    for i in 4..12 {
+        if LONGEST < head[i] {
+            return Err(ReplayError::TooLong);
         }
-        i += 1;
     }
-    false
+    Ok(())
 }
 
-// The length at a place of the head: that of the records, or of a buffer.
-fn length_at(head: &[u64; 12], at: usize) -> usize
-    requires place { (4 ≤ at) × (at < 12) }
-    requires room { HasRoom head.now }
-    ensures { (result ≡ get_or head.now at 0) × (result ≤ 4096) }
-{
-    head[at] as usize
-}
-
-// Reads what the next buffer should hold, and compares, where all before was read.
-fn compare_output(input: &mut impl Read, so_far: Found, buffer: &[u64]) -> io::Result<Found> {
-    let Found::Read(agrees) = so_far else {
-        return Ok(so_far);
-    };
-    let mut count = [0u64; 1];
-    if !read_words(input, &mut count)? {
-        return Ok(Found::CutShort);
-    }
-    let n = count[0] as usize;
-    if 4096 < n {
-        return Ok(Found::TooLong);
-    }
-    let mut space = room();
-    let used = &mut space[0..n];
-    if !read_words(input, used)? {
-        return Ok(Found::CutShort);
-    }
-    Ok(Found::Read(holds(buffer, used) && agrees))
-}
-
-// Reads the number and the fourteen words that the call should give, and compares.
-fn compare_answer(input: &mut impl Read, number: u64, res: &[u64; 14]) -> io::Result<Found> {
-    let mut expected = [0u64; 15];
-    if !read_words(input, &mut expected)? {
-        return Ok(Found::CutShort);
-    }
-    Ok(Found::Read(holds(res, &expected[1..]) && number == expected[0]))
-}
-
-// Plans a program into the buffers, and compares the answer and every word of each buffer.
-fn plan_and_compare(
+// Reads what a buffer should hold, and compares.
+fn buffer_agrees(
+    alloc: Global,
     input: &mut impl Read,
-    head: &[u64; 12],
-    records: &[u64],
-    steps: &mut [u64],
-    merges: &mut [u64],
-    sizes: &mut [u64],
-    rotations: &mut [u64],
-    promotions: &mut [u64],
-    measurements: &mut [u64],
-    groups: &mut [u64],
-) -> io::Result<Found> {
-    let mut res = [7u64; 14];
-    let number = midvokt_plan(
-        head[0],
-        head[1],
-        head[2],
-        head[3],
-        records,
-        steps,
-        merges,
-        sizes,
-        rotations,
-        promotions,
-        measurements,
-        groups,
-        &mut res,
-    );
-    let mut found = compare_answer(input, number, &res)?;
-    found = compare_output(input, found, steps)?;
-    found = compare_output(input, found, merges)?;
-    found = compare_output(input, found, sizes)?;
-    found = compare_output(input, found, rotations)?;
-    found = compare_output(input, found, promotions)?;
-    found = compare_output(input, found, measurements)?;
-    compare_output(input, found, groups)
-}
-
-// Plans into buffers of the lengths that the vector gives, with no zero in them before.
-fn plan_in_buffers(input: &mut impl Read, head: &[u64; 12], records: &[u64]) -> io::Result<Found>
-    requires { HasRoom head.now }
-{
-    let mut steps = room();
-    let mut merges = room();
-    let mut sizes = room();
-    let mut rotations = room();
-    let mut promotions = room();
-    let mut measurements = room();
-    let mut groups = room();
-    plan_and_compare(
-        input,
-        head,
-        records,
-        &mut steps[0..length_at(head, 5)],
-        &mut merges[0..length_at(head, 6)],
-        &mut sizes[0..length_at(head, 7)],
-        &mut rotations[0..length_at(head, 8)],
-        &mut promotions[0..length_at(head, 9)],
-        &mut measurements[0..length_at(head, 10)],
-        &mut groups[0..length_at(head, 11)],
-    )
-}
-
-// Reads the next vector and replays it.
-fn replay_next(input: &mut impl Read) -> io::Result<Found> {
-    let mut head = [0u64; 12];
-    if !read_words(input, &mut head)? {
-        return Ok(Found::CutShort);
+    buffer: &[u64],
+) -> Result<bool, ReplayError> {
+    let count = read_word(input)?;
+    if LONGEST < count {
+        return Err(ReplayError::TooLong);
     }
-    if too_long(&head) {
-        return Ok(Found::TooLong);
-    }
-    let n = length_at(&head, 4);
-    let mut space = room();
-    let records = &mut space[0..n];
-    if !read_words(input, records)? {
-        return Ok(Found::CutShort);
-    }
-    plan_in_buffers(input, &head, records)
+    let used = read_words(alloc, input, count)?;
+    Ok(holds(buffer, &used))
 }
 
-// Prints a text, a number and a text.
-fn put(rt: &impl Print, before: &str, number: u64, after: &str) -> io::Result<()> {
-    rt.print(before)?;
-    rt.print(number)?;
-    rt.print(after)
+// Reads the number and the words that the call should give, and compares.
+fn answer_agrees(
+    alloc: Global,
+    input: &mut impl Read,
+    number: u64,
+    reply: &[u64; 14],
+) -> Result<bool, ReplayError> {
+    let expected_number = read_word(input)?;
+    let expected = read_words(alloc, input, 14)?;
+    Ok(holds(reply, &expected) && number == expected_number)
 }
 
-// Prints a line on a vector that does not agree or was not read.
-fn tell(rt: &impl Print, index: u64, found: Found) -> io::Result<()> {
-    match found {
-        Found::Read(agrees) => {
-            if !agrees {
-                put(rt, "vector ", index, ": differs\n")?;
-            }
-            Ok(())
+// The seven buffers of a plan.
+#[derive(Drop)]
+struct Buffers {
+    steps: Vec<u64>,
+    merges: Vec<u64>,
+    sizes: Vec<u64>,
+    rotations: Vec<u64>,
+    promotions: Vec<u64>,
+    measurements: Vec<u64>,
+    groups: Vec<u64>,
+}
+
+impl Buffers {
+    // Buffers of the lengths that the head gives, with no zero in them.
+    fn new(alloc: Global, head: &[u64; 12]) -> Result<Buffers, AllocError> {
+        Ok(Buffers {
+            steps: vec![in alloc; 7u64; head[5] as usize]?,
+            merges: vec![in alloc; 7u64; head[6] as usize]?,
+            sizes: vec![in alloc; 7u64; head[7] as usize]?,
+            rotations: vec![in alloc; 7u64; head[8] as usize]?,
+            promotions: vec![in alloc; 7u64; head[9] as usize]?,
+            measurements: vec![in alloc; 7u64; head[10] as usize]?,
+            groups: vec![in alloc; 7u64; head[11] as usize]?,
+        })
+    }
+
+    // Plans a program into the buffers; the number of the answer.
+    fn plan(&mut self, head: &[u64; 12], records: &[u64], reply: &mut [u64; 14]) -> u64 {
+        midvokt_plan(
+            head[0],
+            head[1],
+            head[2],
+            head[3],
+            records,
+            &mut self.steps,
+            &mut self.merges,
+            &mut self.sizes,
+            &mut self.rotations,
+            &mut self.promotions,
+            &mut self.measurements,
+            &mut self.groups,
+            reply,
+        )
+    }
+
+    // Reads what each buffer should hold, and compares every word.
+    fn agree(&self, alloc: Global, input: &mut impl Read) -> Result<bool, ReplayError> {
+        let mut agrees = true;
+        for buffer in [
+            &self.steps,
+            &self.merges,
+            &self.sizes,
+            &self.rotations,
+            &self.promotions,
+            &self.measurements,
+            &self.groups,
+        ] {
+            agrees &= buffer_agrees(alloc, input, buffer)?;
         }
-        Found::TooLong => put(rt, "vector ", index, ": too long\n"),
-        Found::CutShort => put(rt, "the list ends in vector ", index, "\n"),
+        Ok(agrees)
     }
 }
 
-// Prints how many vectors there are, agree and differ.
-fn sum_up(rt: &impl Print, count: u64, agree: u64, differ: u64) -> io::Result<()> {
-    put(rt, "", count, " vectors: ")?;
-    put(rt, "", agree, " agree, ")?;
-    put(rt, "", differ, " differ\n")
+// Reads the next vector and replays it; whether it agrees.
+fn replay_next(alloc: Global, input: &mut impl Read) -> Result<bool, ReplayError> {
+    let mut head = [0u64; 12];
+    for word in head.iter_mut() {
+        *word = read_word(input)?;
+    }
+    check_lengths(&head)?;
+    let records = read_words(alloc, input, head[4])?;
+    let mut buffers = Buffers::new(alloc, &head)?;
+    let mut reply = [7u64; 14];
+    let number = buffers.plan(&head, &records, &mut reply);
+    let answer = answer_agrees(alloc, input, number, &reply)?;
+    Ok(buffers.agree(alloc, input)? && answer)
 }
 
 // Replays that many vectors, up to the first that cannot be read, and prints how many agree.
-fn replay_all(rt: &impl Print, input: &mut impl Read, count: u64) -> io::Result<()> {
+fn replay_all(rt: &impl Print, alloc: Global, input: &mut impl Read, count: u64) -> io::Result<()> {
     let mut agree: u64 = 0;
-    let mut i: u64 = 0;
-    while i < count {
-        let found = replay_next(input)?;
-        tell(rt, i, found)?;
-        let Found::Read(agrees) = found else {
-            break;
-        };
-        if agrees {
-            agree += 1;
+    let mut differ: u64 = 0;
+    for i in 0..count {
+        match replay_next(alloc, input) {
+            Ok(true) => agree += 1,
+            Ok(false) => {
+                differ += 1;
+                println!(rt; "vector {i}: differs")?;
+            }
+            Err(ReplayError::Io(error)) => return Err(error),
+            Err(ReplayError::TooLong) => {
+                println!(rt; "vector {i}: {}", ReplayError::TooLong)?;
+                break;
+            }
+            Err(ReplayError::CutShort) => {
+                println!(rt; "{} in vector {i}", ReplayError::CutShort)?;
+                break;
+            }
         }
-        i += 1;
     }
-    sum_up(rt, count, agree, i - agree)
+    println!(rt; "{count} vectors: {agree} agree, {differ} differ")
 }
 
 // Reads the number of vectors and replays them.
 fn main(rt: HostRuntime) -> io::Result<()> {
-    let mut input = rt.reader();
-    let mut count = [0u64; 1];
-    if read_words(&mut input, &mut count)? {
-        replay_all(&rt, &mut input, count[0])
-    } else {
-        rt.println("the list ends before its first vector")
+    let alloc = rt.alloc();
+    let mut input = BufReader::new(alloc, rt.reader())?;
+    match read_word(&mut input) {
+        Ok(count) => replay_all(&rt, alloc, &mut input, count),
+        Err(ReplayError::Io(error)) => Err(error),
+        Err(error) => println!(rt; "{error} before its first vector"),
     }
 }

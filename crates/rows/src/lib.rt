@@ -1,144 +1,194 @@
-// Rows as words. A row is written into the part of its buffer that begins at its offset: the functions here are lent that
-// part, and write its first words.
+// Rows as words. A row is written into the part of its buffer that begins at its number times its size: `put` lends that
+// part, and each kind of row writes its words into the front of it.
 #![tactic(auto)]
 
-ghost use Rattle.std.specs.Prelude.{◌≡◌, [], ◌∷◌, ◌++◌, ◌+◌, ◌*◌, ◌≤◌, length, drop};
-ghost use Rattle.definition.specs.Walk.{flag_word, bits_word, row_head, rotation_row, measurement_row};
+ghost use Rattle.std.specs.Prelude.{◌≡◌, ℕ, List, [], ◌∷◌, ◌++◌, ◌+◌, ◌*◌, ◌≤◌, length, drop, refl};
+ghost use Rattle.definition.specs.Walk.{bits_word, row_head, rotation_row, measurement_row};
+ghost use Rattle.definition.proofs.Growth.{rotation_row_length, measurement_row_length};
 ghost use Rattle.outputs.specs.Buffers.{patch};
+ghost use Rattle.rows.specs.Steps.{kind_number};
 
 use kernels::active::{
     ActivePauliAction, PrecomputedActivePauliMeasurementKernel,
     PrecomputedActivePauliRotationKernel,
 };
 
+// A row: how many words it has, which words they are, and how they are written.
+pub trait Row: Copy {
+    // How many words each row of the type has.
+    const WORDS: usize;
+
+    ghost WORDS: { ℕ };
+
+    // The words that a row stands for.
+    ghost words: { Self → List ℕ };
+
+    // Writes the row's words into the front of a part.
+    fn write(self, part: &mut [u64])
+        requires { WORDS ≤ length part.old }
+        ensures { part.new ≡ words self ++ drop WORDS part.old };
+
+    // A row's words are as many as its type says.
+    ghost counted: { (row : Self) → length (words row) ≡ WORDS };
+}
+
 // What a row says of its join: the component, and which part of the merge list has the sources.
-#[derive(Clone, Copy)]
+#[derive(Clone, Copy, Debug, PartialEq, Eq)]
 pub struct RowHead {
     pub component: u64,
     pub merge_offset: u64,
     pub merge_count: u64,
 }
 
+// A rotation's row.
+#[derive(Clone, Copy)]
+pub struct RotationRow {
+    pub head: RowHead,
+    pub kernel: PrecomputedActivePauliRotationKernel,
+}
+
+// A measurement's row, and whether the component has no coordinate left after it.
+#[derive(Clone, Copy)]
+pub struct MeasurementRow {
+    pub head: RowHead,
+    pub kernel: PrecomputedActivePauliMeasurementKernel,
+    pub deactivated: bool,
+}
+
+// What is done for a record.
+#[derive(Clone, Copy, Debug, PartialEq, Eq)]
+pub enum StepKind {
+    None,
+    IgnoredGlobalPhase,
+    Rotation,
+    Promotion,
+    Measurement,
+}
+
+// The step of a record: its kind, and the number of its row among the rows of that kind, or 0.
+#[derive(Clone, Copy, Debug, PartialEq, Eq)]
+pub struct Step {
+    pub kind: StepKind,
+    pub payload: u64,
+}
+
+impl From<StepKind> for u64 {
+    ghost from_gives = { λ kind number. number ≡ kind_number kind };
+
+    fn from(kind: StepKind) -> u64 {
+        match kind {
+            StepKind::None => 0,
+            StepKind::IgnoredGlobalPhase => 1,
+            StepKind::Rotation => 2,
+            StepKind::Promotion => 3,
+            StepKind::Measurement => 4,
+        }
+    }
+}
+
 // The bits of a float. A NaN has one pattern.
 pub fn float_bits(x: f64) -> u64
     ensures { result ≡ bits_word x }
 {
-    if x != x {
+    if x.is_nan() {
         0x7ff8_0000_0000_0000
     } else {
-        f64::to_bits(x)
+        x.to_bits()
     }
 }
 
-// 1 for a flag that is set.
-pub fn flag_word(flag: bool) -> u64
-    ensures { result ≡ flag_word flag }
+// Writes the eleven words that a rotation's and a measurement's row begin with.
+fn write_head(part: &mut [u64], head: RowHead, action: ActivePauliAction)
+    requires { 11 ≤ length part.old }
+    ensures { part.new ≡ row_head head.component head.merge_offset head.merge_count action ++ drop 11 part.old }
 {
-    if flag { 1 } else { 0 }
+    part[..11].copy_from_slice(&[
+        head.component,
+        head.merge_offset,
+        head.merge_count,
+        action.nqubits,
+        action.xmask,
+        action.zmask,
+        float_bits(action.even_phase.re),
+        float_bits(action.even_phase.im),
+        float_bits(action.odd_phase.re),
+        float_bits(action.odd_phase.im),
+        u64::from(action.xz_overlap_odd),
+    ]);
 }
 
-// Writes the eleven words that a row begins with.
-fn write_head(row: &mut [u64], head: RowHead, action: ActivePauliAction)
-    requires { 11 ≤ length row.old }
-    ensures { row.new ≡ row_head head.component head.merge_offset head.merge_count action ++ drop 11 row.old }
-{
-    row[0] = head.component;
-    row[1] = head.merge_offset;
-    row[2] = head.merge_count;
-    row[3] = action.nqubits;
-    row[4] = action.xmask;
-    row[5] = action.zmask;
-    row[6] = float_bits(action.even_phase.re);
-    row[7] = float_bits(action.even_phase.im);
-    row[8] = float_bits(action.odd_phase.re);
-    row[9] = float_bits(action.odd_phase.im);
-    row[10] = flag_word(action.xz_overlap_odd);
+impl Row for RotationRow {
+    const WORDS: usize = 21;
+
+    ghost WORDS = { 21 };
+
+    ghost words = { λ row. rotation_row row.head.component row.head.merge_offset row.head.merge_count row.kernel };
+
+    ghost counted = { λ row. rotation_row_length row.head.component row.head.merge_offset row.head.merge_count row.kernel };
+
+    fn write(self, part: &mut [u64]) {
+        let rotation = self.kernel;
+        write_head(part, self.head, rotation.action);
+        part[11..21].copy_from_slice(&[
+            u64::from(rotation.is_diagonal),
+            u64::from(rotation.uniform_imag_pairs),
+            u64::from(rotation.real_pair_flip),
+            rotation.pair_bit,
+            rotation.pair_count,
+            float_bits(rotation.kernel_angle),
+            float_bits(rotation.cos_kernel_angle),
+            float_bits(rotation.sin_kernel_angle),
+            float_bits(rotation.minus_even_coefficient.re),
+            float_bits(rotation.minus_even_coefficient.im),
+        ]);
+    }
 }
 
-// Writes a rotation's row, 21 words.
-fn write_rotation(row: &mut [u64], head: RowHead, kernel: PrecomputedActivePauliRotationKernel)
-    requires { 21 ≤ length row.old }
-    ensures { row.new ≡ rotation_row head.component head.merge_offset head.merge_count kernel ++ drop 21 row.old }
-{
-    let action = kernel.action;
-    write_head(row, head, action);
-    row[11] = flag_word(kernel.is_diagonal);
-    row[12] = flag_word(kernel.uniform_imag_pairs);
-    row[13] = flag_word(kernel.real_pair_flip);
-    row[14] = kernel.pair_bit;
-    row[15] = kernel.pair_count;
-    row[16] = float_bits(kernel.kernel_angle);
-    row[17] = float_bits(kernel.cos_kernel_angle);
-    row[18] = float_bits(kernel.sin_kernel_angle);
-    row[19] = float_bits(kernel.minus_even_coefficient.re);
-    row[20] = float_bits(kernel.minus_even_coefficient.im);
+impl Row for MeasurementRow {
+    const WORDS: usize = 19;
+
+    ghost WORDS = { 19 };
+
+    ghost words = { λ row. measurement_row row.head.component row.head.merge_offset row.head.merge_count row.kernel row.deactivated };
+
+    ghost counted = { λ row. measurement_row_length row.head.component row.head.merge_offset row.head.merge_count row.kernel row.deactivated };
+
+    fn write(self, part: &mut [u64]) {
+        let measurement = self.kernel;
+        write_head(part, self.head, measurement.action);
+        part[11..19].copy_from_slice(&[
+            measurement.pivot,
+            u64::from(measurement.is_diagonal),
+            measurement.diagonal_phase_bit,
+            measurement.z_without_pivot,
+            measurement.out_dim,
+            float_bits(measurement.nondiagonal_coefficient1_even.re),
+            float_bits(measurement.nondiagonal_coefficient1_even.im),
+            u64::from(self.deactivated),
+        ]);
+    }
 }
 
-// Writes a measurement's row, 19 words.
-fn write_measurement(
-    row: &mut [u64],
-    head: RowHead,
-    kernel: PrecomputedActivePauliMeasurementKernel,
-    deactivated: bool,
-)
-    requires { 19 ≤ length row.old }
-    ensures { row.new ≡ measurement_row head.component head.merge_offset head.merge_count kernel deactivated ++ drop 19 row.old }
-{
-    let action = kernel.action;
-    write_head(row, head, action);
-    row[11] = kernel.pivot;
-    row[12] = flag_word(kernel.is_diagonal);
-    row[13] = kernel.diagonal_phase_bit;
-    row[14] = kernel.z_without_pivot;
-    row[15] = kernel.out_dim;
-    row[16] = float_bits(kernel.nondiagonal_coefficient1_even.re);
-    row[17] = float_bits(kernel.nondiagonal_coefficient1_even.im);
-    row[18] = flag_word(deactivated);
+impl Row for Step {
+    const WORDS: usize = 2;
+
+    ghost WORDS = { 2 };
+
+    ghost words = { λ step. kind_number step.kind ∷ step.payload ∷ [] };
+
+    ghost counted = { λ step. refl };
+
+    fn write(self, part: &mut [u64]) {
+        part[0] = u64::from(self.kind);
+        part[1] = self.payload;
+    }
 }
 
-// Writes the two words of a step.
-fn write_step(step: &mut [u64], kind: u64, payload: u64)
-    requires { 2 ≤ length step.old }
-    ensures { step.new ≡ kind ∷ payload ∷ drop 2 step.old }
+// Writes a row into the part of the rows that begins at its number times its size.
+pub fn put<R: Row>(rows: &mut [u64], number: usize, row: R)
+    requires { R.WORDS * number + R.WORDS ≤ length rows.old }
+    ensures { rows.new ≡ patch (R.WORDS * number) (R.words row) rows.old }
 {
-    step[0] = kind;
-    step[1] = payload;
-}
-
-// Writes the row of a rotation into the part of the rows that begins at its number times 21.
-pub fn put_rotation(
-    rows: &mut [u64],
-    number: usize,
-    head: RowHead,
-    kernel: PrecomputedActivePauliRotationKernel,
-)
-    requires { 21 * number + 21 ≤ length rows.old }
-    ensures { rows.new ≡ patch (21 * number) (rotation_row head.component head.merge_offset head.merge_count kernel) rows.old }
-{
-    let at = 21 * number;
-    write_rotation(&mut rows[at..], head, kernel);
-}
-
-// Writes the row of a measurement into the part of the rows that begins at its number times 19.
-pub fn put_measurement(
-    rows: &mut [u64],
-    number: usize,
-    head: RowHead,
-    kernel: PrecomputedActivePauliMeasurementKernel,
-    deactivated: bool,
-)
-    requires { 19 * number + 19 ≤ length rows.old }
-    ensures { rows.new ≡ patch (19 * number) (measurement_row head.component head.merge_offset head.merge_count kernel deactivated) rows.old }
-{
-    let at = 19 * number;
-    write_measurement(&mut rows[at..], head, kernel, deactivated);
-}
-
-// Writes the step of a record.
-pub fn put_step(steps: &mut [u64], index: usize, kind: u64, payload: u64)
-    requires { 2 * index + 2 ≤ length steps.old }
-    ensures { steps.new ≡ patch (2 * index) (kind ∷ payload ∷ []) steps.old }
-{
-    let at = 2 * index;
-    write_step(&mut steps[at..], kind, payload);
+    let at = R::WORDS * number;
+    row.write(&mut rows[at..]);
 }

@@ -4,12 +4,14 @@
 #![tactic(auto)]
 
 ghost use Rattle.std.specs.Prelude.{◌≡◌, ◌≤◌, ◌<◌, length, set};
+ghost use Rattle.positions.specs.Positions.{Below512};
 ghost use Rattle.state.specs.Steps.{InOrder, Closed, Started, Joinable, gathering, sizes_after, BeforeJoin, Joined, promoted, BeforeRemoval, Removed};
 ghost use Rattle.state.specs.Steps as Steps;
 
-#[derive(Clone, Copy)]
+#[derive(Clone, Copy, Debug, PartialEq, Eq)]
 pub struct State {
     // by active position: the component of the coordinate there, and its index among that component's members
+    // Kept: two arrays, since a struct of both at each position takes 512 bytes more, and the walk's stack has three states
     pub component: [u16; 512],
     pub place: [u8; 512],
     // by component number: how many members it has, 0 once joined away or emptied
@@ -19,18 +21,25 @@ pub struct State {
     pub count: usize,
 }
 
+// The numbers 0 to k - 1 in order, and zeros behind them.
+fn numbers_to(k: usize) -> [u16; 512]
+    requires { k ≤ 512 }
+    ensures in_order { InOrder k result }
+    ensures small { Below512 result }
+{
+    let mut numbers = [0u16; 512];
+    for i in 0..k {
+        numbers[i] = i as u16;
+    }
+    numbers
+}
+
 // The active order at the start: coordinates 0 to k - 1.
 pub fn first_order(k: usize) -> [u16; 512]
     requires { k ≤ 512 }
     ensures { InOrder k result }
 {
-    let mut order = [0u16; 512];
-    let mut i: usize = 0;
-    while i < k {
-        order[i] = i as u16;
-        i += 1;
-    }
-    order
+    numbers_to(k)
 }
 
 // A coordinate behind the last of the active order.
@@ -46,11 +55,7 @@ pub fn close_gap(order: &mut [u16; 512], pivot: usize, last: usize)
     requires { (pivot ≤ last) × (last < 512) × (length order.old ≡ 512) }
     ensures { Closed pivot last order.old order.new }
 {
-    let mut p = pivot;
-    while p < last {
-        order[p] = order[p + 1];
-        p += 1;
-    }
+    order[..].copy_within(pivot + 1..last + 1, pivot);
 }
 
 // Gives the first of the sources the sizes of all, and the others none. Returns by how much a join raises the places of each
@@ -63,13 +68,12 @@ pub fn gather_sizes(size: &mut [u8; 512], sources: &[u64]) -> [u8; 512]
     let mut rise = [0u8; 512];
     let target = sources[0] as usize;
     let mut grown = size[target];
-    let mut i: usize = 1;
-    while i < sources.len() {
-        let source = sources[i] as usize;
+    let others = &sources[1..];
+    for source in others {
+        let source = *source as usize;
         rise[source] = grown;
         grown += size[source];
         size[source] = 0;
-        i += 1;
     }
     size[target] = grown;
     rise
@@ -99,20 +103,16 @@ impl State {
         requires { k ≤ 512 }
         ensures { Started k result }
     {
-        let mut state = State {
-            component: [0u16; 512],
+        let numbers = numbers_to(k);
+        let mut size = [0u8; 512];
+        size[..k].fill(1);
+        State {
+            component: numbers,
             place: [0u8; 512],
-            size: [0u8; 512],
+            size,
             width: k,
             count: k,
-        };
-        let mut i: usize = 0;
-        while i < k {
-            state.component[i] = i as u16;
-            state.size[i] = 1;
-            i += 1;
         }
-        state
     }
 
     // The members of the other sources go behind those of the first, in order.
@@ -122,32 +122,27 @@ impl State {
     {
         let rise = gather_sizes(&mut self.size, sources);
         let target = sources[0] as u16;
-        let width = self.width;
-        let mut p: usize = 0;
-        while p < width {
-            let c = self.component[p] as usize;
-            let by = rise[c];
+        for p in 0..self.width {
+            let by = rise[usize::from(self.component[p])];
             if by != 0 {
                 self.component[p] = target;
                 self.place[p] += by;
             }
-            p += 1;
         }
         self
     }
 
     // A new coordinate, alone in a new component, both with the next number.
+    #[tactic(auto, unfolding(crate::specs::Steps::promoted))]
     pub fn promote(mut self) -> Self
         requires { (self.width < 512) × (self.count < 512) }
         ensures { result ≡ promoted self }
     {
-        let width = self.width;
-        let count = self.count;
-        self.component[width] = count as u16;
-        self.place[width] = 0;
-        self.size[count] = 1;
-        self.width = width + 1;
-        self.count = count + 1;
+        self.component[self.width] = self.count as u16;
+        self.place[self.width] = 0;
+        self.size[self.count] = 1;
+        self.width += 1;
+        self.count += 1;
         self
     }
 
@@ -159,17 +154,13 @@ impl State {
         let target = self.component[pivot];
         let local = self.place[pivot];
         let last = self.width - 1;
-        let mut p: usize = 0;
-        while p < last {
+        for p in 0..last {
             let q = skip(pivot, p);
             let c = self.component[q];
-            let place = self.place[q];
             self.component[p] = c;
-            self.place[p] = lower(target, local, c, place);
-            p += 1;
+            self.place[p] = lower(target, local, c, self.place[q]);
         }
-        let at = target as usize;
-        self.size[at] -= 1;
+        self.size[usize::from(target)] -= 1;
         self.width = last;
         self
     }

@@ -11,7 +11,7 @@ use Rattle.records.specs.declared.Head.{Head}
 use Rattle.definition.specs.Plan.{Plan, Result, planned, refused_at, refuse_all, plan_of, padded, held_after}
 use Rattle.definition.proofs.Room.{plan_fits_in}
 use Rattle.outputs.specs.declared.WordCounts.{WordCounts}
-use Rattle.walk.specs.Walking.{Buffers, lengths_of, SameLengths}
+use Rattle.outputs.specs.Outputs.{Buffers, lengths_of, SameLengths}
 use Rattle.lent.specs.Lent.{Held}
 use Rattle.answer.specs.declared.ActiveComponentPlan.{ActiveComponentPlan}
 use Rattle.answer.specs.declared.Planned.TheVariants as P

@@ -8,8 +8,8 @@ use lib.Dec.{ltb}
 use lib.ListN.{length, take}
 use Rattle.records.specs.declared.Head.{Head}
 use Rattle.definition.specs.Plan.{Plan, Result, planned, refused_at, refuse_all, plan_of, padded, held_after}
-use Rattle.walk.specs.Walking as Walking
-use Rattle.walk.specs.Walking.{Buffers}
+use Rattle.outputs.specs.Outputs as Outputs
+use Rattle.outputs.specs.Outputs.{Buffers}
 use Rattle.component_plan.proofs.Filled.{front_of_padded}
 use Rattle.stored_plan.specs.Stored.{kept_of, file_of}
 use Rattle.stored_plan.specs.Reading.{Read, restored, trailer_word, read_file}
@@ -53,9 +53,9 @@ gives_back p file before after r e a =
 
 -- for every accepted program, every buffer and every file that is long enough
 pub call_written : (h : Head) (ws : List ℕ) (before after : Buffers) (file filed : List ℕ) (n : ℕ) → h.initial_k < 2 ^ 64
-    → Stores h ws before after file filed (S.File n) → (p : Plan) × (plan_of h ws (Walking.lengths_of before) ≡ planned p) × Written p filed n
+    → Stores h ws before after file filed (S.File n) → (p : Plan) × (plan_of h ws (Outputs.lengths_of before) ≡ planned p) × Written p filed n
 call_written h ws before after file filed n small a =
-    let l = Walking.lengths_of before in
+    let l = Outputs.lengths_of before in
     let it = stored_plan (length file) (plan_of h ws l) n a.answer in
     let p = it.0 in
     let bytes : filed ≡ padded (length file) (file_of p) = a.bytes ∙ ap (held_after (length file) file_of) it.2 in

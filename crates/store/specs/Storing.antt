@@ -2,7 +2,7 @@
 use Rattle.std.specs.Prelude.{ℕ, ◌≡◌, List, ltb, length}
 use Rattle.records.specs.declared.Head.{Head}
 use Rattle.definition.specs.Plan.{Lengths, Result, planned, refused_at, refuse_all, plan_of, held_after}
-use Rattle.walk.specs.Walking.{Buffers, lengths_of}
+use Rattle.outputs.specs.Outputs.{Buffers, lengths_of}
 use Rattle.lent.specs.Lent.{Held}
 use Rattle.stored_plan.specs.Stored.{file_of}
 use Rattle.store.specs.declared.Stored.{Stored}

@@ -8,14 +8,13 @@ ghost use Rattle.definition.specs.WholeWorks.{whole_works_of};
 ghost use Rattle.tally.specs.Tally.{Countable, joining_of, JoinFits, start_tally, joined_tally, ignored_tally, rotated_tally, promoted_tally, measured_tally, power_left, works_of};
 
 use kernels::bits::exact_exp2;
-use std::num::wrapping_add_u64;
 
 // Past this active width the works are not given as whole numbers.
 const WIDEST: u64 = 38;
 
 // A join that is to be made: how many sources it has, the first of them, how many members they have together, the joining
 // cost as a float and as a whole number, and the sources' dimensions together.
-#[derive(Clone, Copy)]
+#[derive(Clone, Copy, Debug, PartialEq)]
 pub struct Joining {
     pub count: usize,
     pub target: u64,
@@ -27,7 +26,7 @@ pub struct Joining {
 
 // The works as floats and as whole numbers, the widest active width, the live dimension and its peak, and how many merges,
 // rows of each kind and quantum instructions there are.
-#[derive(Clone, Copy)]
+#[derive(Clone, Copy, Debug, Default, PartialEq)]
 pub struct Tally {
     pub dense: f64,
     pub work: f64,
@@ -45,7 +44,8 @@ pub struct Tally {
 
 // Both works as whole numbers, and dense divided by component: not where a width passed 38, and no quotient where the
 // component work is 0.
-#[derive(Clone, Copy)]
+// Kept: an enum of its own, since it has three cases.
+#[derive(Clone, Copy, Debug, PartialEq, Eq)]
 pub enum WholeWorks {
     TooWide,
     WithoutQuotient {
@@ -64,10 +64,11 @@ fn power(size: u64) -> u64
     requires { size < 64 }
     ensures { result ≡ 2 ^ size }
 {
-    1u64 << size
+    1 << size
 }
 
 // 2 to the power of k, modulo 2^64.
+#[tactic(auto, using(crate::proofs::Sums::power_gone))]
 fn power_low(k: u64) -> u64
     ensures { result ≡ 2 ^ k % 2 ^ 64 }
 {
@@ -75,6 +76,7 @@ fn power_low(k: u64) -> u64
 }
 
 // Twice 2 to the power of k, modulo 2^64.
+#[tactic(auto, using(crate::proofs::Sums::double_gone))]
 fn double_low(k: u64) -> u64
     ensures { result ≡ 2 * 2 ^ k % 2 ^ 64 }
 {
@@ -89,27 +91,12 @@ fn power_left(size: u64) -> u64
     if size <= 1 { 0 } else { power(size - 1) }
 }
 
-// The larger of two dimensions.
-fn larger(a: u64, b: u64) -> u64
-    ensures { result ≡ max a b }
-{
-    if a < b { b } else { a }
-}
-
-// A size, as a word.
-fn wide(size: u8) -> u64
-    ensures { result ≡ size }
-{
-    size as u64
-}
-
 // How many members a component has.
 fn size_at(size: &[u8; 512], component: u64) -> u64
     requires { component < 512 }
     ensures { result ≡ slice_index size.now component }
 {
-    let at = component as usize;
-    wide(size[at])
+    u64::from(size[component as usize])
 }
 
 // The join of the sources.
@@ -120,16 +107,14 @@ pub fn join_of(size: &[u8; 512], sources: &[u64]) -> Joining
     let target = sources[0];
     let mut grown = size_at(size, target);
     let mut freed = power(grown);
-    let mut cost: f64 = 0.0;
-    let mut whole_cost: u64 = 0;
-    let mut i: usize = 1;
-    while i < sources.len() {
-        let more = size_at(size, sources[i]);
+    let mut cost = 0.0f64;
+    let mut whole_cost = 0u64;
+    for &source in &sources[1..] {
+        let more = size_at(size, source);
         grown += more;
         freed += power(more);
-        cost = cost + 2.0 * exact_exp2(grown);
-        whole_cost = wrapping_add_u64(whole_cost, double_low(grown));
-        i += 1;
+        cost += 2.0 * exact_exp2(grown);
+        whole_cost = whole_cost.wrapping_add(double_low(grown));
     }
     Joining {
         count: sources.len(),
@@ -143,47 +128,42 @@ pub fn join_of(size: &[u8; 512], sources: &[u64]) -> Joining
 
 impl Tally {
     // Before the first record, with k coordinates, each alone.
+    #[tactic(auto, unfolding(crate::specs::Tally::start_tally))]
     pub fn start(k: u64) -> Self
         requires { k ≤ 512 }
         ensures { result ≡ start_tally k }
     {
         Tally {
-            dense: 0.0,
-            work: 0.0,
-            whole_dense: 0,
-            whole_work: 0,
             widest: k,
             live: 2 * k,
             peak: 2 * k,
-            merges: 0,
-            rotations: 0,
-            promotions: 0,
-            measurements: 0,
-            quantum: 0,
+            ..Tally::default()
         }
     }
 
     // After a join.
+    #[tactic(auto, unfolding(crate::specs::Tally::joined_tally))]
     fn joined(mut self, join: Joining) -> Self
         requires { JoinFits self join }
         ensures { result ≡ joined_tally self join }
     {
         self.live = self.live - join.freed + power(join.size);
-        self.peak = larger(self.peak, self.live);
-        self.work = self.work + join.cost;
-        self.whole_work = wrapping_add_u64(self.whole_work, join.whole_cost);
+        self.peak = self.peak.max(self.live);
+        self.work += join.cost;
+        self.whole_work = self.whole_work.wrapping_add(join.whole_cost);
         self.merges += join.count;
         self.quantum += 1;
         self
     }
 
     // After a rotation of no coordinates.
+    #[tactic(auto, unfolding(crate::specs::Tally::ignored_tally))]
     pub fn ignored(mut self) -> Self
         requires { self.quantum + 1 < 2 ^ 64 }
         ensures { result ≡ ignored_tally self }
     {
-        self.dense = self.dense + exact_exp2(0);
-        self.whole_dense = wrapping_add_u64(self.whole_dense, 1);
+        self.dense += exact_exp2(0);
+        self.whole_dense = self.whole_dense.wrapping_add(1);
         self.quantum += 1;
         self
     }
@@ -195,10 +175,10 @@ impl Tally {
         ensures { result ≡ rotated_tally self join k }
     {
         let mut next = self.joined(join);
-        next.dense = next.dense + exact_exp2(k);
-        next.work = next.work + (exact_exp2(join.size) + 32.0);
-        next.whole_dense = wrapping_add_u64(next.whole_dense, power_low(k));
-        next.whole_work = wrapping_add_u64(next.whole_work, power(join.size) + 32);
+        next.dense += exact_exp2(k);
+        next.work += exact_exp2(join.size) + 32.0;
+        next.whole_dense = next.whole_dense.wrapping_add(power_low(k));
+        next.whole_work = next.whole_work.wrapping_add(power(join.size) + 32);
         next.rotations += 1;
         next
     }
@@ -211,13 +191,13 @@ impl Tally {
         requires counted { self.quantum + 1 < 2 ^ 64 }
         ensures { result ≡ promoted_tally self k }
     {
-        self.dense = self.dense + 2.0 * exact_exp2(k);
-        self.work = self.work + 34.0;
-        self.whole_dense = wrapping_add_u64(self.whole_dense, double_low(k));
-        self.whole_work = wrapping_add_u64(self.whole_work, 34);
-        self.widest = larger(self.widest, k + 1);
+        self.dense += 2.0 * exact_exp2(k);
+        self.work += 34.0;
+        self.whole_dense = self.whole_dense.wrapping_add(double_low(k));
+        self.whole_work = self.whole_work.wrapping_add(34);
+        self.widest = self.widest.max(k + 1);
         self.live += 2;
-        self.peak = larger(self.peak, self.live);
+        self.peak = self.peak.max(self.live);
         self.promotions += 1;
         self.quantum += 1;
         self
@@ -230,17 +210,18 @@ impl Tally {
         ensures { result ≡ measured_tally self join k }
     {
         let mut next = self.joined(join);
-        next.dense = next.dense + 2.0 * exact_exp2(k);
-        next.work = next.work + (2.0 * exact_exp2(join.size) + 32.0);
-        next.whole_dense = wrapping_add_u64(next.whole_dense, double_low(k));
-        let removal = wrapping_add_u64(double_low(join.size), 32);
-        next.whole_work = wrapping_add_u64(next.whole_work, removal);
+        next.dense += 2.0 * exact_exp2(k);
+        next.work += 2.0 * exact_exp2(join.size) + 32.0;
+        next.whole_dense = next.whole_dense.wrapping_add(double_low(k));
+        let removal = double_low(join.size).wrapping_add(32);
+        next.whole_work = next.whole_work.wrapping_add(removal);
         next.live = next.live - power(join.size) + power_left(join.size);
         next.measurements += 1;
         next
     }
 
     // The works as whole numbers, and how many times the component work goes into the dense one.
+    #[tactic(auto, unfolding(definition::specs::WholeWorks::whole_works_of))]
     pub fn whole_works(self) -> WholeWorks
         ensures { works_of result ≡ whole_works_of (record { dense = self.whole_dense; component = self.whole_work; widest = self.widest }) }
     {

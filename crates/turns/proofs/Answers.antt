@@ -3,7 +3,7 @@ use mathlib.Core.Path.{◌≡◌, refl, sym, ap, ◌∙◌, subst}
 use mathlib.Core.Bool.{Bool, true, false, cond}
 use Prim.Native.Nat.{ℕ}
 use native.Mathlib.Omega.{arith}
-use Rattle.kernels.specs.Active.{Answer, given, refused}
+use Rattle.refusals.specs.Answer.{Answer, given, refused}
 use Rattle.definition.proofs.Steps.{given_same}
 use Rattle.turns.specs.Turns.{Settled}
 

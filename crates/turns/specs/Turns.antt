@@ -2,7 +2,8 @@
 -- stops".
 use Rattle.std.specs.Prelude.{ℕ, ◌+◌, ◌*◌, ◌%◌, ◌^◌, ◌<◌, ◌≤◌, max, ◌≡◌, List, [], ◌∷◌, false, cond, eqb, leb, length, get_or, set, pos, Float}
 use Rattle.std.specs.Float.{fin}
-use Rattle.kernels.specs.Active.{Answer, given, refused, action, rotation, measurement}
+use Rattle.refusals.specs.Answer.{Answer, given, refused}
+use Rattle.kernels.specs.Active.{action, rotation, measurement}
 use Rattle.kernels.specs.declared.active.ActivePauliAction.{ActivePauliAction}
 use Rattle.kernels.specs.declared.active.PrecomputedActivePauliRotationKernel.{PrecomputedActivePauliRotationKernel}
 use Rattle.kernels.specs.declared.active.PrecomputedActivePauliMeasurementKernel.{PrecomputedActivePauliMeasurementKernel}

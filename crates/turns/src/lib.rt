@@ -8,13 +8,13 @@ ghost use Rattle.tally.specs.Tally.{joining_of};
 ghost use Rattle.turns.specs.Turns.{sources_at, GatherFits, number_before, sources_before, WhereJoined, no_joining, join_before, local_action_of, Settled, JoinedFits, rotation_answer, RotationDone, measurement_answer, MeasurementDone, PromotionFits, PromotionDone};
 
 use kernels::active::{
-    ActivePauliAction, MeasurementKernel, PrecomputedActivePauliMeasurementKernel,
-    PrecomputedActivePauliRotationKernel, RotationKernel,
+    ActivePauliAction, Angle, PrecomputedActivePauliMeasurementKernel,
+    PrecomputedActivePauliRotationKernel,
 };
 use outputs::buffers::raise_size;
 use positions::{below_width, local_mask, reached_positions, write_sources};
 use records::Instruction;
-use rows::{RowHead, put_measurement, put_rotation, put_step};
+use rows::{MeasurementRow, RotationRow, RowHead, Step, StepKind, put};
 use tally::{Joining, Tally, join_of};
 
 // A refusal's number, or 0 and the join that the record makes: one of no sources where it makes none.
@@ -175,13 +175,25 @@ pub fn rotate(
         (RotationDone width index join tally result.tally steps.old sizes.old rotations.old steps.new sizes.new rotations.new) }
 {
     let action = local_action(place, x, z, phase, width, join.size);
-    let made = PrecomputedActivePauliRotationKernel::new(action, phase, angle, sine, cosine, limit);
+    let angle = Angle {
+        value: angle,
+        sine,
+        cosine,
+    };
+    let made = PrecomputedActivePauliRotationKernel::new(action, phase, angle, limit);
     match made {
-        RotationKernel::TooLarge => Closing { number: 14, tally },
-        RotationKernel::Built(kernel) => {
-            let row = tally.rotations;
-            put_rotation(rotations, row, head_of(join, tally), kernel);
-            put_step(steps, index, 2, row as u64);
+        Err(reason) => Closing {
+            number: reason.number(),
+            tally,
+        },
+        Ok(kernel) => {
+            let head = head_of(join, tally);
+            put(rotations, tally.rotations, RotationRow { head, kernel });
+            let step = Step {
+                kind: StepKind::Rotation,
+                payload: tally.rotations as u64,
+            };
+            put(steps, index, step);
             raise_size(sizes, join.target as usize, join.size);
             Closing {
                 number: 0,
@@ -255,16 +267,22 @@ pub fn measure<'a>(
     let local = wide8(place[at]);
     let made = PrecomputedActivePauliMeasurementKernel::with_pivot(action, phase, local, limit);
     match made {
-        MeasurementKernel::TooLarge => Closing { number: 14, tally },
-        MeasurementKernel::PivotWithoutX => Closing { number: 17, tally },
-        MeasurementKernel::PivotWithoutZ => Closing { number: 18, tally },
-        MeasurementKernel::ImaginaryPhase => Closing { number: 19, tally },
-        MeasurementKernel::Identity => Closing { number: 20, tally },
-        MeasurementKernel::Built(kernel) => {
-            let row = tally.measurements;
-            let last = join.size == 1;
-            put_measurement(measurements, row, head_of(join, tally), kernel, last);
-            put_step(steps, index, 4, row as u64);
+        Err(reason) => Closing {
+            number: reason.number(),
+            tally,
+        },
+        Ok(kernel) => {
+            let measured = MeasurementRow {
+                head: head_of(join, tally),
+                kernel,
+                deactivated: join.size == 1,
+            };
+            put(measurements, tally.measurements, measured);
+            let step = Step {
+                kind: StepKind::Measurement,
+                payload: tally.measurements as u64,
+            };
+            put(steps, index, step);
             raise_size(sizes, join.target as usize, join.size);
             Closing {
                 number: 0,
@@ -289,7 +307,11 @@ pub fn promote(
 {
     let row = tally.promotions;
     promotions[row] = next as u64;
-    put_step(steps, index, 3, row as u64);
+    let step = Step {
+        kind: StepKind::Promotion,
+        payload: row as u64,
+    };
+    put(steps, index, step);
     sizes[next] = 1;
     tally.promoted(width)
 }

@@ -26,7 +26,8 @@ use Rattle.outputs.specs.Buffers.{counts_of, placed_up_to}
 use Rattle.representation.specs.Represents.{Ordered}
 use Rattle.representation.proofs.Moving.{represents_start}
 use Rattle.representation.proofs.Groups.{GroupsWritten, groups_written}
-use Rattle.walk.specs.Walking.{Buffers, SameLengths, lengths_of, WalkEnds, Walkable}
+use Rattle.outputs.specs.Outputs.{Buffers, SameLengths, lengths_of}
+use Rattle.walk.specs.Walking.{WalkEnds, Walkable}
 use Rattle.walk.specs.declared.Walked.TheVariants as W
 use Rattle.walk.proofs.Reaching.{Reached, tracked, made, active_most, groups_small}
 

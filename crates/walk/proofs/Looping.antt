@@ -1,8 +1,8 @@
 -- The invariant of the walk's loop as one record, and what each place of the loop's body asks, by the lemmas on one turn.
+use Rattle.std.specs.Prelude.{Option, Some, None}
 use mathlib.Core.Path.{◌≡◌, refl, sym, ap, ap₂, ◌∙◌, subst}
 use mathlib.Core.Logic.{◌⊎◌, ⊎_elim}
 use mathlib.Core.Bool.{Bool, true, false, cond, not}
-use mathlib.Core.Option.{Option, some, none}
 use mathlib.Core.List.{List, [], ◌∷◌, ◌++◌}
 use Prim.Native.Nat.{ℕ, ◌+◌, ◌-◌, ◌*◌, ◌/◌, ◌^◌, ◌≤◌, ◌<◌}
 use native.Mathlib.Omega.{arith}
@@ -10,7 +10,8 @@ use lib.Dec.{eqb, leb}
 use lib.Ieee.{Float}
 use lib.ListN.{length, get_or, set, take, drop, replicate, length-append, length-take}
 use Rattle.kernels.specs.Bits.{dimension, bit_at}
-use Rattle.kernels.specs.Active.{Answer, given, refused, of_dimension, rotation, measurement, nondiagonal, diagonal, imaginary, rotation_kernel}
+use Rattle.refusals.specs.Answer.{Answer, given, refused}
+use Rattle.kernels.specs.Active.{of_dimension, rotation, measurement, nondiagonal, diagonal, imaginary, rotation_kernel}
 use Rattle.kernels.specs.declared.active.ActivePauliAction.{ActivePauliAction}
 use Rattle.kernels.specs.declared.active.PrecomputedActivePauliRotationKernel.{PrecomputedActivePauliRotationKernel}
 use Rattle.kernels.specs.declared.active.PrecomputedActivePauliMeasurementKernel.{PrecomputedActivePauliMeasurementKernel}
@@ -30,7 +31,8 @@ use Rattle.tally.specs.Tally.{start_tally, joining_of, ignored_tally}
 use Rattle.outputs.specs.Buffers.{patch, counts_of, CountsFit, placed_up_to, PlacesFit}
 use Rattle.representation.specs.Represents.{Ordered, Represents}
 use Rattle.representation.proofs.Moving.{ordered_start, ordered_promotion, ordered_removal}
-use Rattle.walk.specs.Walking.{Buffers, SameLengths, lengths_of, Begins, WalkEnds, Walkable}
+use Rattle.outputs.specs.Outputs.{Buffers, SameLengths, lengths_of}
+use Rattle.walk.specs.Walking.{Begins, WalkEnds, Walkable}
 use Rattle.walk.specs.declared.Walked.TheVariants as W
 use Rattle.turns.specs.Turns.{sources_at, GatherFits, number_before, sources_before, WhereJoined, join_before, local_action_of, Settled, JoinedFits, rotation_answer, RotationDone, measurement_answer, MeasurementDone, PromotionFits, PromotionDone}
 use Rattle.walk.proofs.Reaching.{Reached, few_records, width_next}
@@ -80,8 +82,8 @@ numbered_cond true x y f g = f
 numbered_cond false x y f g = g
 
 numbered_dimension : {K : Type 0} (d : Option ℕ) (f : ℕ → Answer K) → ((n : ℕ) → Numbered (f n)) → Numbered (of_dimension d f)
-numbered_dimension none f g = numbered_refused 14 (λ e. omega arith)
-numbered_dimension (some n) f g = g n
+numbered_dimension None f g = numbered_refused 14 (λ e. omega arith)
+numbered_dimension (Some n) f g = g n
 
 pub rotation_numbered : (limit : ℕ) (a : ActivePauliAction) (p : ℕ) (angle sine cosine : Float) → Numbered (rotation limit a p angle sine cosine)
 rotation_numbered limit a p angle sine cosine =

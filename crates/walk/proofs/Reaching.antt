@@ -9,7 +9,7 @@ use lib.Dec.{eqb, ltb}
 use borrow.Author.Tests.{ltb-false}
 use lib.ListN.{length, get_or, take, drop, length-take}
 use lib.Seq.{get_or-take, drop-cons, take-suc}
-use Rattle.kernels.specs.Active.{Answer, given, refused}
+use Rattle.refusals.specs.Answer.{Answer, given, refused}
 use Rattle.records.specs.Record.{instructions_of}
 use Rattle.records.specs.declared.Instruction.{Instruction}
 use Rattle.records.specs.declared.Instruction.TheVariants.{Promotion, DormantBranch}
@@ -26,7 +26,8 @@ use Rattle.definition.proofs.Room.{or-false, Kept, Narrow, width_of, run_kept, s
 use Rattle.state.specs.declared.State.{State}
 use Rattle.tally.specs.declared.Tally.{Tally}
 use Rattle.representation.specs.Represents.{Represents}
-use Rattle.walk.specs.Walking.{Buffers, Begins, Tallied, WalkEnds, Walkable}
+use Rattle.outputs.specs.Outputs.{Buffers}
+use Rattle.walk.specs.Walking.{Begins, Tallied, WalkEnds, Walkable}
 use Rattle.walk.specs.declared.Walked.TheVariants as W
 
 pub record Reached (limit k : ℕ) (is : List Instruction) (i : ℕ) (w : Walk) (s : State) (t : Tally) (c : Buffers) : Type 0 where

@@ -1,8 +1,8 @@
 -- The definition's step, by what the code found: a refusal of the width, the answer of the kernel over the joined component, or no test at all.
+use Rattle.std.specs.Prelude.{Option, Some, None}
 use mathlib.Core.Path.{◌≡◌, refl, sym, ap, ◌∙◌}
 use mathlib.Core.Logic.{◌⊎◌, inl, inr, ⊎_elim}
 use mathlib.Core.Bool.{Bool, true, false, cond, not}
-use mathlib.Core.Option.{Option, some, none}
 use Prim.Native.Nat.{ℕ, ◌^◌, ◌<◌, min}
 use native.Mathlib.Omega.{arith}
 use lib.Dec.{eqb, leb, ltb}
@@ -10,7 +10,8 @@ use lib.Ieee.{Float}
 use lib.ListN.{length, get_or}
 use borrow.Author.Tests.{eq-eqb, ne_eqb, lt-ltb, le-ltb, leb-true, leb-false, eqb-true, eqb-false}
 use Rattle.kernels.specs.Bits.{dimension}
-use Rattle.kernels.specs.Active.{Answer, given, refused, of_dimension, rotation_kernel, rotation, measurement}
+use Rattle.refusals.specs.Answer.{Answer, given, refused}
+use Rattle.kernels.specs.Active.{of_dimension, rotation_kernel, rotation, measurement}
 use Rattle.kernels.specs.declared.active.PrecomputedActivePauliMeasurementKernel.{PrecomputedActivePauliMeasurementKernel}
 use Rattle.records.specs.declared.Instruction.{Instruction}
 use Rattle.records.specs.declared.Instruction.TheVariants.{Rotation, Promotion, RecordMeasurement, RecordDetector, Measurement, Expectation, DormantBranch}
@@ -36,17 +37,17 @@ refuse_yes t n rest e = ap (λ (b : Bool). refuse b n rest) e
 
 -- the kernel's own answer says the same of a dimension that is too large
 refuse_large : {K : Type 0} (d : Option ℕ) (f : ℕ → Answer K) (g : K → Answer Walk) → refuse (is_none d) 14 (when_given (of_dimension d f) g) ≡ when_given (of_dimension d f) g
-refuse_large none f g = refl
-refuse_large (some n) f g = refl
+refuse_large None f g = refl
+refuse_large (Some n) f g = refl
 
 -- below 64 a size has a dimension exactly below the limit
 pub large_is : (limit size : ℕ) → size < 64 → is_none (dimension limit size) ≡ leb limit size
 unfolding dimension
 large_is limit size small = go (leb limit size) refl
   where
-    go : (t : Bool) → leb limit size ≡ t → is_none (cond (ltb size (min limit 64)) (some (2 ^ size)) none) ≡ t
-    go true e = let l = leb-true limit size e in ap (λ (b : Bool). is_none (cond b (some (2 ^ size)) none)) (le-ltb size (min limit 64) (omega arith))
-    go false e = let l = leb-false limit size e in ap (λ (b : Bool). is_none (cond b (some (2 ^ size)) none)) (lt-ltb size (min limit 64) (omega arith))
+    go : (t : Bool) → leb limit size ≡ t → is_none (cond (ltb size (min limit 64)) (Some (2 ^ size)) None) ≡ t
+    go true e = let l = leb-true limit size e in ap (λ (b : Bool). is_none (cond b (Some (2 ^ size)) None)) (le-ltb size (min limit 64) (omega arith))
+    go false e = let l = leb-false limit size e in ap (λ (b : Bool). is_none (cond b (Some (2 ^ size)) None)) (lt-ltb size (min limit 64) (omega arith))
 
 -- ---- the width
 

@@ -14,7 +14,8 @@ use lib.Ieee.{Float, fin, binary64, add, mul}
 use lib.ListN.{length, get_or, set, take, length-append}
 use borrow.Author.Tests.{eq-eqb, ne_eqb, le-leb, lt-leb, leb-false, eqb-true, eqb-false}
 use Rattle.kernels.specs.Bits.{exp2}
-use Rattle.kernels.specs.Active.{Answer, given, refused, action, rotation, measurement}
+use Rattle.refusals.specs.Answer.{Answer, given, refused}
+use Rattle.kernels.specs.Active.{action, rotation, measurement}
 use Rattle.kernels.specs.declared.active.PrecomputedActivePauliRotationKernel.{PrecomputedActivePauliRotationKernel}
 use Rattle.kernels.specs.declared.active.PrecomputedActivePauliMeasurementKernel.{PrecomputedActivePauliMeasurementKernel}
 use Rattle.records.specs.Record.{instructions_of}
@@ -41,7 +42,8 @@ use Rattle.outputs.specs.Buffers.{patch}
 use Rattle.representation.specs.Represents.{Represents}
 use Rattle.representation.proofs.Moving.{represents_promotion, before_removal, represents_removal}
 use Rattle.representation.proofs.Sums.{live_removal, live_promotion}
-use Rattle.walk.specs.Walking.{Buffers, SameLengths, lengths_of, Begins, Tallied, WalkEnds, Walkable}
+use Rattle.outputs.specs.Outputs.{Buffers, SameLengths, lengths_of}
+use Rattle.walk.specs.Walking.{Begins, Tallied, WalkEnds, Walkable}
 use Rattle.walk.specs.declared.Walked.TheVariants as W
 use Rattle.turns.specs.Turns.{raised, sources_at, GatherFits, number_before, sources_before, WhereJoined, local_action_of, JoinedFits, rotation_answer, RotationDone, measurement_answer, MeasurementDone, PromotionFits, PromotionDone}
 use Rattle.walk.proofs.Reaching.{Reached, few_records, tracked, width_next, made, made_next, kept, live_small, quantum_small, steps_written, rows_written, rotations_wide, measurements_wide, run_next, stops}

@@ -1,46 +1,15 @@
 -- What the contract of `walk` says: it stops where the definition's walk stops, or leaves in front of each buffer what the definition's walk has written.
 use Rattle.std.specs.Prelude.{ℕ, ◌/◌, ◌%◌, ◌^◌, ◌≤◌, ◌≡◌, List, false, length, take}
-use Rattle.records.specs.Pass.{record_pass}
-use Rattle.records.specs.declared.Checked.TheVariants.{Passed}
+use Rattle.records.specs.Pass.{Passed, record_pass}
 use Rattle.definition.specs.Lists.{concat}
 use Rattle.definition.specs.Components.{live_dimension}
 use Rattle.definition.specs.Walk.{Walk, Walked, finished, stopped}
-use Rattle.definition.specs.Plan.{Lengths, groups_of, words_refused, buffers_refused}
+use Rattle.definition.specs.Plan.{groups_of, words_refused, buffers_refused}
 use Rattle.tally.specs.declared.Tally.{Tally}
+use Rattle.outputs.specs.Outputs.{Buffers, lengths_of}
 use Rattle.walk.specs.declared.Summary.{Summary}
 use Rattle.walk.specs.declared.Walked as Declared
 use Rattle.walk.specs.declared.Walked.TheVariants as W
-
--- the seven lent buffers
-pub record Buffers : Type 0 where
-  pub steps : List ℕ
-  pub merges : List ℕ
-  pub sizes : List ℕ
-  pub rotations : List ℕ
-  pub promotions : List ℕ
-  pub measurements : List ℕ
-  pub groups : List ℕ
-
-abbrev pub lengths_of : Buffers → Lengths
-lengths_of b = record {
-  steps = length b.steps;
-  merges = length b.merges;
-  sizes = length b.sizes;
-  rotations = length b.rotations;
-  promotions = length b.promotions;
-  measurements = length b.measurements;
-  groups = length b.groups;
-}
-
--- a buffer keeps its length
-pub record SameLengths (before after : Buffers) : Type 0 where
-  pub steps : length after.steps ≡ length before.steps
-  pub merges : length after.merges ≡ length before.merges
-  pub sizes : length after.sizes ≡ length before.sizes
-  pub rotations : length after.rotations ≡ length before.rotations
-  pub promotions : length after.promotions ≡ length before.promotions
-  pub measurements : length after.measurements ≡ length before.measurements
-  pub groups : length after.groups ≡ length before.groups
 
 -- the words stand in front
 abbrev pub Begins : List ℕ → List ℕ → Type 0

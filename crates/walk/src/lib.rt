@@ -10,7 +10,7 @@ ghost use Rattle.std.specs.Prelude.{◌≡◌, ◌<◌};
 
 use outputs::buffers::{fill_ones, write_counts, write_members};
 use records::{Instruction, read};
-use rows::put_step;
+use rows::{Step, StepKind, put};
 use state::{State, append, close_gap, first_order};
 use tally::Tally;
 use turns::{measure, open, promote, rotate};
@@ -116,7 +116,11 @@ pub fn walk(
             } => {
                 if count == 0 {
                     tally = tally.ignored();
-                    put_step(steps, index, 1, 0);
+                    let step = Step {
+                        kind: StepKind::IgnoredGlobalPhase,
+                        payload: 0,
+                    };
+                    put(steps, index, step);
                 } else {
                     let after = rotate(
                         x,
@@ -190,7 +194,13 @@ pub fn walk(
                 let last = state.width;
                 close_gap(&mut order, at, last);
             }
-            _ => put_step(steps, index, 0, 0),
+            _ => {
+                let step = Step {
+                    kind: StepKind::None,
+                    payload: 0,
+                };
+                put(steps, index, step);
+            }
         }
     }
     let count = state.count;

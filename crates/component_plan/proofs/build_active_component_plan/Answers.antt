@@ -2,12 +2,11 @@
 -- `plan_read`, with zeros written wherever there is no plan of a walk.
 use mathlib.Core.Path.{◌≡◌, refl, sym, ap, ◌∙◌}
 use mathlib.Core.Bool.{true}
-use mathlib.Core.Logic.{⊎_elim}
 use mathlib.Core.List.{List}
 use Prim.Native.Nat.{ℕ}
-use Rattle.kernels.specs.Active.{given}
+use Rattle.refusals.specs.Answer.{given}
 use Rattle.definition.specs.Plan.{planned, refused_at, unread, unread_plan, plan_of, plan_read}
-use Rattle.walk.specs.Walking.{Buffers, lengths_of, SameLengths}
+use Rattle.outputs.specs.Outputs.{Buffers, lengths_of, SameLengths}
 use Rattle.lent.specs.Lent.{head_answer, dense_peak_of}
 use Rattle.component_plan.proofs.Refusals.{answers, zeros_held, unread_held, unread_same, unread_small, unread_expected, unread_neither, plan_headless, plan_unread, plan_is_read, refused_answers, planned_answers}
 use Rattle.component_plan.proofs.build_active_component_plan.Goals as goal

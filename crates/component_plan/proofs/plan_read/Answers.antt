@@ -7,13 +7,13 @@ use mathlib.Core.List.{List}
 use Prim.Native.Nat.{ℕ, ◌/◌, ◌<◌, ◌≤◌}
 use lib.ListN.{length, take, get_or, length-take}
 use Rattle.records.specs.Record.{instructions_of}
-use Rattle.records.specs.Pass.{record_pass}
-use Rattle.records.specs.declared.Checked.TheVariants.{Passed}
+use Rattle.records.specs.Pass.{Passed, checked_of, record_pass}
 use Rattle.definition.specs.Components.{allocated_for}
 use Rattle.definition.specs.Walk.{Walk, finished, start, walk_from}
 use Rattle.definition.specs.Plan.{planned, plan_from, plan_read, buffers_refused, after_walk}
 use Rattle.definition.proofs.Steps.{Run, run_of_walk}
-use Rattle.walk.specs.Walking.{Buffers, lengths_of, Walkable, Ended, SameLengths}
+use Rattle.outputs.specs.Outputs.{Buffers, lengths_of, SameLengths}
+use Rattle.walk.specs.Walking.{Walkable, Ended}
 use Rattle.lent.specs.Lent.{Held, lent_number}
 use Rattle.definition.proofs.Sizes.{reached_longest}
 use Rattle.component_plan.proofs.Filled.{front_fits, front_of_padded, used_fit, used_same, whole_same, size_words, walk_held}
@@ -46,7 +46,7 @@ walk-walked-requires c =
     let before_of : Buffers = buffers c.args.steps.now c.args.merges.now c.args.sizes.now c.args.rotations.now c.args.promotions.now c.args.measurements.now c.args.groups.now in
     let words_of : List ℕ = c.args.records.now in
     let lent : c.lent_number-number.result ≡ lent_number c.args.head.initial_k (length words_of) (buffers_refused (length words_of / 8) (lengths_of before_of)) = c.lent_number-number.ensures ∙ ap (λ (b : Bool). lent_number c.args.head.initial_k (length words_of) b) c.buffers_short-short.ensures in
-    let passed : record_pass c.args.head.initial_k words_of ≡ Passed = sym c.check_records-checked.ensures ∙ c.in-Passed.is in
+    let passed : record_pass c.args.head.initial_k words_of ≡ Passed = sym c.check_records-checked.ensures ∙ ap checked_of c.in-Ok.is in
     let walkable : Walkable c.args.head.initial_k words_of before_of = let a = c.args in
     let zero = c.if-number-ne0.false in record {
       initial_small = lent_initial a.head words_of (lengths_of before_of) a.dense_peak _ lent zero;
@@ -150,15 +150,16 @@ plan_of-requires c =
     used_fit c.args.head.initial_k words_of ended.0 run c.in-Finished.done walked_of ended.2
     (lent_few c.args.head words_of (lengths_of before_of) c.args.dense_peak _ lent c.if-number-ne0.false)
 
-pub returns-in-Refused : goal.returns-in-Refused
-returns-in-Refused c =
+pub returns-in-Err : goal.returns-in-Err
+returns-in-Err c =
     let before_of : Buffers = buffers c.args.steps.now c.args.merges.now c.args.sizes.now c.args.rotations.now c.args.promotions.now c.args.measurements.now c.args.groups.now in
     let words_of : List ℕ = c.args.records.now in
     let lent : c.lent_number-number.result ≡ lent_number c.args.head.initial_k (length words_of) (buffers_refused (length words_of / 8) (lengths_of before_of)) = c.lent_number-number.ensures ∙ ap (λ (b : Bool). lent_number c.args.head.initial_k (length words_of) b) c.buffers_short-short.ensures in
     let a = c.args in
-    read-refused a.head a.dense_peak words_of before_of before_of _ _
+    rw c.number.ensures
+    (read-refused a.head a.dense_peak words_of before_of before_of _ _
     (lent_passed a.head words_of (lengths_of before_of) a.dense_peak _ lent c.if-number-ne0.false _
-    (sym c.check_records-checked.ensures ∙ c.in-Refused.is))
+    (sym c.check_records-checked.ensures ∙ ap checked_of c.in-Err.is)))
 
 pub returns-in-Stopped : goal.returns-in-Stopped
 returns-in-Stopped c =
@@ -166,7 +167,7 @@ returns-in-Stopped c =
     let words_of : List ℕ = c.args.records.now in
     let walked_of : Buffers = buffers c.walk-walked.new.steps c.walk-walked.new.merges c.walk-walked.new.sizes c.walk-walked.new.rotations c.walk-walked.new.promotions c.walk-walked.new.measurements c.walk-walked.new.groups in
     let lent : c.lent_number-number.result ≡ lent_number c.args.head.initial_k (length words_of) (buffers_refused (length words_of / 8) (lengths_of before_of)) = c.lent_number-number.ensures ∙ ap (λ (b : Bool). lent_number c.args.head.initial_k (length words_of) b) c.buffers_short-short.ensures in
-    let passed : record_pass c.args.head.initial_k words_of ≡ Passed = sym c.check_records-checked.ensures ∙ c.in-Passed.is in
+    let passed : record_pass c.args.head.initial_k words_of ≡ Passed = sym c.check_records-checked.ensures ∙ ap checked_of c.in-Ok.is in
     let read_walk : plan_read c.args.head words_of (lengths_of before_of) c.args.dense_peak
     ≡ after_walk c.args.head.initial_k c.args.dense_peak (walk_from c.args.head.ceiling 0 (start c.args.head.initial_k) (instructions_of words_of)) = let a = c.args in
     lent_passed a.head words_of (lengths_of before_of) a.dense_peak _ lent c.if-number-ne0.false Passed passed in
@@ -184,7 +185,7 @@ returns-in-Finished c =
     let walked_of : Buffers = buffers c.walk-walked.new.steps c.walk-walked.new.merges c.walk-walked.new.sizes c.walk-walked.new.rotations c.walk-walked.new.promotions c.walk-walked.new.measurements c.walk-walked.new.groups in
     let cleared-of : Buffers = buffers c.clear_rest.new.steps c.clear_rest.new.merges c.clear_rest.new.sizes c.clear_rest.new.rotations c.clear_rest.new.promotions c.clear_rest.new.measurements c.clear_rest.new.groups in
     let lent : c.lent_number-number.result ≡ lent_number c.args.head.initial_k (length words_of) (buffers_refused (length words_of / 8) (lengths_of before_of)) = c.lent_number-number.ensures ∙ ap (λ (b : Bool). lent_number c.args.head.initial_k (length words_of) b) c.buffers_short-short.ensures in
-    let passed : record_pass c.args.head.initial_k words_of ≡ Passed = sym c.check_records-checked.ensures ∙ c.in-Passed.is in
+    let passed : record_pass c.args.head.initial_k words_of ≡ Passed = sym c.check_records-checked.ensures ∙ ap checked_of c.in-Ok.is in
     let read_walk : plan_read c.args.head words_of (lengths_of before_of) c.args.dense_peak
     ≡ after_walk c.args.head.initial_k c.args.dense_peak (walk_from c.args.head.ceiling 0 (start c.args.head.initial_k) (instructions_of words_of)) = let a = c.args in
     lent_passed a.head words_of (lengths_of before_of) a.dense_peak _ lent c.if-number-ne0.false Passed passed in

@@ -9,6 +9,7 @@ use Rattle.tally.specs.Tally.{works_of}
 use Rattle.answer.specs.Outcome.{outcome_of}
 use Rattle.answer.specs.declared.ActiveComponentPlan.{ActiveComponentPlan}
 use Rattle.answer.specs.declared.Planned.TheVariants as P
+use Rattle.rows.proofs.Words.{flag_is}
 use Rattle.midvokt.specs.Reply.{words_of}
 use Rattle.midvokt.proofs.plan_word.Goals as goal
 
@@ -29,7 +30,7 @@ returns-then-i-lt9 c =
     first_word c.args.plan i c.if-i-lt9.true (λ above. omega arith)
 
 pub returns-in-1 : goal.returns-in-1
-returns-in-1 c = rw c.in-1.is c.flag_word.ensures
+returns-in-1 c = rw (c.in-1.is, c.from.ensures) (flag_is c.args.plan.selected)
 
 pub returns-in-2 : goal.returns-in-2
 returns-in-2 c = rw c.in-2.is refl

@@ -14,6 +14,6 @@ returns c =
     let n : ℕ = length c.args.buffer.now in
     let used = c.args.used.now in
     let long = padded_length n used in (
-      (λ e. ext_get_or 0 c.args.buffer.now (padded n used) (omega arith) (λ k h. c.loop-at.invariant.1 k (omega arith) ∙ sym (zeroed_at used (padded n used) k (n, refl)))),
+      (λ e. ext_get_or 0 c.args.buffer.now (padded n used) (omega arith) (λ k h. c.loop-at.invariant k (omega arith) ∙ sym (zeroed_at used (padded n used) k (n, refl)))),
       (λ e. refl),
     )

@@ -1,9 +1,6 @@
 -- The buffer is the used words at every place passed, 0 behind their end.
-use Rattle.std.proofs.Common.{length, ◌-◌, ◌≡◌, ◌≤◌, ◌<◌, get_or, ℕ}
+use Rattle.std.proofs.Common.{◌≡◌, ◌<◌, get_or, ℕ}
 use Rattle.replay.proofs.holds.Given as goal
 
 abbrev pub invariant-loop-at : goal.invariant-loop-at
-invariant-loop-at l = (l.at ≤ length l.buffer) × ((k : ℕ) → k < l.at → get_or l.buffer k 0 ≡ get_or l.used k 0)
-
-abbrev pub decreases-loop-at : goal.decreases-loop-at
-decreases-loop-at l = length l.buffer - l.at
+invariant-loop-at l = (k : ℕ) → k < l.at → get_or l.buffer k 0 ≡ get_or l.used k 0

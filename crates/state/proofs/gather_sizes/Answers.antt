@@ -1,74 +1,27 @@
--- `state::gather_sizes` meets its contract. The loop's invariant: what the sources from i on make of the arrays is what all make of those at entry.
-use Rattle.std.proofs.Common.{rules}
-use mathlib.Core.Path.{◌≡◌, refl, sym, ap, ◌∙◌}
-use Prim.Native.Nat.{ℕ, ◌+◌}
-use native.Mathlib.Omega.{arith}
-use lib.ListN.{get_or, drop, set, drop_of_length-le}
-use Rattle.state.specs.Steps.{Gathering, gather_from, gathering, target_of}
-use mathlib.Core.List.{List}
-use Rattle.positions.proofs.Arrays.{rest_at}
-use Rattle.state.proofs.Gathers.{grown_rises}
+-- `state::gather_sizes` meets its contract. The loop's invariant: what the sources that are left make of the arrays is what all make of those at entry.
+use Rattle.std.proofs.Common.{List, ℕ, arith, ◌+◌, ◌-◌, ap, length, drop, length-drop, replicate, get_or}
+use Rattle.std.proofs.lemmas.Grind.{common_steps}
+use lib.Seq.{take_all}
+use Rattle.state.specs.Steps.{gather_from, gathering, target_of}
+use Rattle.state.proofs.Gathers.{grown_within}
 use Rattle.state.proofs.gather_sizes.Goals as goal
 
-pub bounds-size-target : goal.bounds-size-target
-bounds-size-target c = c.requires.numbers 0
-
-pub loop-i-init : goal.loop-i-init
+pub loop-source-init : goal.loop-source-init
 unfolding gathering
-loop-i-init c = (search rules, search rules, refl)
+loop-source-init c =
+    let size = c.args.size.now in
+    let sources = c.args.sources.now in
+    ap (λ (l : List ℕ). gather_from l (record { rise = replicate 512 0; sizes = size; grown = get_or size (target_of sources) 0 }))
+    (take_all (length sources - 1) (drop 1 sources) (omega (arith, length-drop 1 sources)))
 
 pub bounds-rise-source : goal.bounds-rise-source
-bounds-rise-source c = c.requires.numbers c.loop-i.i
-
-pub bounds-size-source : goal.bounds-size-source
-bounds-size-source c = c.requires.numbers c.loop-i.i
+bounds-rise-source c = grind (arith, common_steps, c.requires.numbers (c.loop-source.source-index + 1))
 
 pub overflow_add-grown : goal.overflow_add-grown
 overflow_add-grown c =
-    let after : Gathering = let turn = c.loop-i in
-    let source = get_or c.args.sources.now turn.i 0 in
-    record { rise = set turn.rise source turn.grown; sizes = set turn.size source 0; grown = turn.grown + get_or turn.size source 0 } in
-    let goes_on : gather_from (drop (c.loop-i.i + 1) c.args.sources.now) after
-    ≡ gathering c.args.size.now c.args.sources.now = let turn = c.loop-i in
-    let sources = c.args.sources.now in
-    sym
-    (ap (λ (l : List ℕ). gather_from l (record { rise = turn.rise; sizes = turn.size; grown = turn.grown }))
-    (rest_at sources turn.i c.loop-i-test.true))
-    ∙ turn.invariant.2 in
-    omega (
-      arith,
-      grown_rises (drop (c.loop-i.i + 1) c.args.sources.now) after,
-      ap (λ (g : Gathering). g.grown) goes_on,
-      c.requires.few,
-    )
+    let turn = c.loop-source in
+    omega
+    (arith, grown_within _ turn.source-index (record { rise = turn.rise; sizes = turn.size; grown = turn.grown }) _ c.loop-source-test.true turn.invariant, c.requires.few)
 
-pub bounds-size-source-in-loop-i : goal.bounds-size-source-in-loop-i
-bounds-size-source-in-loop-i c = c.requires.numbers c.loop-i.i
-
-pub loop-i-preserved : goal.loop-i-preserved
-loop-i-preserved c =
-    let after : Gathering = let turn = c.loop-i in
-    let source = get_or c.args.sources.now turn.i 0 in
-    record { rise = set turn.rise source turn.grown; sizes = set turn.size source 0; grown = turn.grown + get_or turn.size source 0 } in
-    let goes_on : gather_from (drop (c.loop-i.i + 1) c.args.sources.now) after
-    ≡ gathering c.args.size.now c.args.sources.now = let turn = c.loop-i in
-    let sources = c.args.sources.now in
-    sym
-    (ap (λ (l : List ℕ). gather_from l (record { rise = turn.rise; sizes = turn.size; grown = turn.grown }))
-    (rest_at sources turn.i c.loop-i-test.true))
-    ∙ turn.invariant.2 in
-    (omega arith, omega arith, goes_on)
-
-pub bounds-size-target-2 : goal.bounds-size-target-2
-bounds-size-target-2 c = c.requires.numbers 0
-
-pub returns : goal.returns
-returns c =
-    let turn = c.loop-i in
-    let sources = c.args.sources.now in
-    let all =
-    sym
-    (ap (λ (l : List ℕ). gather_from l (record { rise = turn.rise; sizes = turn.size; grown = turn.grown }))
-    (drop_of_length-le sources c.loop-i-test.false))
-    ∙ turn.invariant.2 in
-    (ap (λ (g : Gathering). g.rise) all, ap (λ (g : Gathering). set g.sizes (target_of sources) g.grown) all)
+pub bounds-size-source-in-loop-source : goal.bounds-size-source-in-loop-source
+bounds-size-source-in-loop-source c = grind (arith, common_steps, c.requires.numbers (c.loop-source.source-index + 1))

@@ -5,7 +5,7 @@ use Prim.Native.Nat.{ℕ, ◌*◌, ◌≤◌}
 use native.Mathlib.Omega.{arith}
 use lib.ListN.{length, take}
 use lib.Seq.{length-take-le}
-use Rattle.walk.specs.Walking.{Buffers, SameLengths}
+use Rattle.outputs.specs.Outputs.{Buffers, SameLengths}
 use Rattle.answer.specs.declared.ActiveComponentPlan.{ActiveComponentPlan}
 use Rattle.answer.specs.declared.Planned.{Planned}
 use Rattle.answer.specs.declared.Planned.TheVariants as P

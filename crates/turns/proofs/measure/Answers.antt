@@ -8,7 +8,8 @@ use native.Mathlib.Omega.{arith}
 use lib.Dec.{eqb, leb}
 use lib.ListN.{get_or}
 use borrow.Author.Tests.{leb-false}
-use Rattle.kernels.specs.Active.{measurement, measurement_of}
+use Rattle.refusals.specs.Answer.{answer_of}
+use Rattle.kernels.specs.Active.{measurement}
 use Rattle.kernels.specs.declared.active.ActivePauliAction.{ActivePauliAction}
 use Rattle.definition.specs.Walk.{measurement_row}
 use Rattle.outputs.specs.Buffers.{patch}
@@ -30,11 +31,11 @@ bounds-place-at c =
     let below = leb-false c.args.width c.args.pivot passed.1 in
     omega arith
 
-pub put_measurement-requires : goal.put_measurement-requires
-put_measurement-requires c = c.requires.row_room
+pub put-requires : goal.put-requires
+put-requires c = c.requires.row_room
 
-pub put_step-requires : goal.put_step-requires
-put_step-requires c = c.requires.joined_fits.step_room
+pub put-requires-in-Ok : goal.put-requires-in-Ok
+put-requires-in-Ok c = c.requires.joined_fits.step_room
 
 pub raise_size-requires : goal.raise_size-requires
 raise_size-requires c = c.requires.joined_fits.size_room
@@ -44,76 +45,32 @@ measured-requires c =
     let room = c.requires.row_room in
     record { join_fits = c.requires.joined_fits.sums; row_fits = omega (arith, c.well_formed) }
 
-pub returns-in-TooLarge : goal.returns-in-TooLarge
-returns-in-TooLarge c =
+pub returns-in-Err : goal.returns-in-Err
+returns-in-Err c =
     let passed : (let a = c.args in (measurement_answer a.limit a.component.now a.place.now a.x a.z a.phase a.pivot a.width a.join ≡ measurement a.limit (local_action_of a.place.now a.x a.z a.phase a.width a.join.size) a.phase (get_or a.place.now a.pivot 0)) × (leb a.width a.pivot ≡ false)) = let a = c.args in
     tests_passed (leb a.limit a.join.size) (leb a.width a.pivot) (eqb (get_or a.component.now a.pivot 0) a.join.target) (measurement a.limit (local_action_of a.place.now a.x a.z a.phase a.width a.join.size) a.phase (get_or a.place.now a.pivot 0)) (sym c.pivot_number-number.ensures ∙ c.if-number-ne0.false) in
-    let answer_is : (let a = c.args in measurement_answer a.limit a.component.now a.place.now a.x a.z a.phase a.pivot a.width a.join ≡ measurement_of c.with_pivot-made.result) = let a = c.args in
+    let answer_is : (let a = c.args in measurement_answer a.limit a.component.now a.place.now a.x a.z a.phase a.pivot a.width a.join ≡ answer_of c.with_pivot-made.result) = let a = c.args in
     passed.0
     ∙ sym (c.with_pivot-made.ensures
     ∙ ap (λ (act : ActivePauliAction). measurement a.limit act a.phase c.wide8-local.result) c.local_action-action.ensures
     ∙ ap (λ (p : ℕ). measurement a.limit (local_action_of a.place.now a.x a.z a.phase a.width a.join.size) a.phase p) c.wide8-local.ensures) in
-    settled_refused (answer_is ∙ ap measurement_of c.in-TooLarge.is) refl
+    settled_refused (answer_is ∙ ap answer_of c.in-Err.is) c.number.ensures
 
-pub returns-in-PivotWithoutX : goal.returns-in-PivotWithoutX
-returns-in-PivotWithoutX c =
+pub returns-in-Ok : goal.returns-in-Ok
+returns-in-Ok c =
     let passed : (let a = c.args in (measurement_answer a.limit a.component.now a.place.now a.x a.z a.phase a.pivot a.width a.join ≡ measurement a.limit (local_action_of a.place.now a.x a.z a.phase a.width a.join.size) a.phase (get_or a.place.now a.pivot 0)) × (leb a.width a.pivot ≡ false)) = let a = c.args in
     tests_passed (leb a.limit a.join.size) (leb a.width a.pivot) (eqb (get_or a.component.now a.pivot 0) a.join.target) (measurement a.limit (local_action_of a.place.now a.x a.z a.phase a.width a.join.size) a.phase (get_or a.place.now a.pivot 0)) (sym c.pivot_number-number.ensures ∙ c.if-number-ne0.false) in
-    let answer_is : (let a = c.args in measurement_answer a.limit a.component.now a.place.now a.x a.z a.phase a.pivot a.width a.join ≡ measurement_of c.with_pivot-made.result) = let a = c.args in
-    passed.0
-    ∙ sym (c.with_pivot-made.ensures
-    ∙ ap (λ (act : ActivePauliAction). measurement a.limit act a.phase c.wide8-local.result) c.local_action-action.ensures
-    ∙ ap (λ (p : ℕ). measurement a.limit (local_action_of a.place.now a.x a.z a.phase a.width a.join.size) a.phase p) c.wide8-local.ensures) in
-    settled_refused (answer_is ∙ ap measurement_of c.in-PivotWithoutX.is) refl
-
-pub returns-in-PivotWithoutZ : goal.returns-in-PivotWithoutZ
-returns-in-PivotWithoutZ c =
-    let passed : (let a = c.args in (measurement_answer a.limit a.component.now a.place.now a.x a.z a.phase a.pivot a.width a.join ≡ measurement a.limit (local_action_of a.place.now a.x a.z a.phase a.width a.join.size) a.phase (get_or a.place.now a.pivot 0)) × (leb a.width a.pivot ≡ false)) = let a = c.args in
-    tests_passed (leb a.limit a.join.size) (leb a.width a.pivot) (eqb (get_or a.component.now a.pivot 0) a.join.target) (measurement a.limit (local_action_of a.place.now a.x a.z a.phase a.width a.join.size) a.phase (get_or a.place.now a.pivot 0)) (sym c.pivot_number-number.ensures ∙ c.if-number-ne0.false) in
-    let answer_is : (let a = c.args in measurement_answer a.limit a.component.now a.place.now a.x a.z a.phase a.pivot a.width a.join ≡ measurement_of c.with_pivot-made.result) = let a = c.args in
-    passed.0
-    ∙ sym (c.with_pivot-made.ensures
-    ∙ ap (λ (act : ActivePauliAction). measurement a.limit act a.phase c.wide8-local.result) c.local_action-action.ensures
-    ∙ ap (λ (p : ℕ). measurement a.limit (local_action_of a.place.now a.x a.z a.phase a.width a.join.size) a.phase p) c.wide8-local.ensures) in
-    settled_refused (answer_is ∙ ap measurement_of c.in-PivotWithoutZ.is) refl
-
-pub returns-in-ImaginaryPhase : goal.returns-in-ImaginaryPhase
-returns-in-ImaginaryPhase c =
-    let passed : (let a = c.args in (measurement_answer a.limit a.component.now a.place.now a.x a.z a.phase a.pivot a.width a.join ≡ measurement a.limit (local_action_of a.place.now a.x a.z a.phase a.width a.join.size) a.phase (get_or a.place.now a.pivot 0)) × (leb a.width a.pivot ≡ false)) = let a = c.args in
-    tests_passed (leb a.limit a.join.size) (leb a.width a.pivot) (eqb (get_or a.component.now a.pivot 0) a.join.target) (measurement a.limit (local_action_of a.place.now a.x a.z a.phase a.width a.join.size) a.phase (get_or a.place.now a.pivot 0)) (sym c.pivot_number-number.ensures ∙ c.if-number-ne0.false) in
-    let answer_is : (let a = c.args in measurement_answer a.limit a.component.now a.place.now a.x a.z a.phase a.pivot a.width a.join ≡ measurement_of c.with_pivot-made.result) = let a = c.args in
-    passed.0
-    ∙ sym (c.with_pivot-made.ensures
-    ∙ ap (λ (act : ActivePauliAction). measurement a.limit act a.phase c.wide8-local.result) c.local_action-action.ensures
-    ∙ ap (λ (p : ℕ). measurement a.limit (local_action_of a.place.now a.x a.z a.phase a.width a.join.size) a.phase p) c.wide8-local.ensures) in
-    settled_refused (answer_is ∙ ap measurement_of c.in-ImaginaryPhase.is) refl
-
-pub returns-in-Identity : goal.returns-in-Identity
-returns-in-Identity c =
-    let passed : (let a = c.args in (measurement_answer a.limit a.component.now a.place.now a.x a.z a.phase a.pivot a.width a.join ≡ measurement a.limit (local_action_of a.place.now a.x a.z a.phase a.width a.join.size) a.phase (get_or a.place.now a.pivot 0)) × (leb a.width a.pivot ≡ false)) = let a = c.args in
-    tests_passed (leb a.limit a.join.size) (leb a.width a.pivot) (eqb (get_or a.component.now a.pivot 0) a.join.target) (measurement a.limit (local_action_of a.place.now a.x a.z a.phase a.width a.join.size) a.phase (get_or a.place.now a.pivot 0)) (sym c.pivot_number-number.ensures ∙ c.if-number-ne0.false) in
-    let answer_is : (let a = c.args in measurement_answer a.limit a.component.now a.place.now a.x a.z a.phase a.pivot a.width a.join ≡ measurement_of c.with_pivot-made.result) = let a = c.args in
-    passed.0
-    ∙ sym (c.with_pivot-made.ensures
-    ∙ ap (λ (act : ActivePauliAction). measurement a.limit act a.phase c.wide8-local.result) c.local_action-action.ensures
-    ∙ ap (λ (p : ℕ). measurement a.limit (local_action_of a.place.now a.x a.z a.phase a.width a.join.size) a.phase p) c.wide8-local.ensures) in
-    settled_refused (answer_is ∙ ap measurement_of c.in-Identity.is) refl
-
-pub returns-in-Built : goal.returns-in-Built
-returns-in-Built c =
-    let passed : (let a = c.args in (measurement_answer a.limit a.component.now a.place.now a.x a.z a.phase a.pivot a.width a.join ≡ measurement a.limit (local_action_of a.place.now a.x a.z a.phase a.width a.join.size) a.phase (get_or a.place.now a.pivot 0)) × (leb a.width a.pivot ≡ false)) = let a = c.args in
-    tests_passed (leb a.limit a.join.size) (leb a.width a.pivot) (eqb (get_or a.component.now a.pivot 0) a.join.target) (measurement a.limit (local_action_of a.place.now a.x a.z a.phase a.width a.join.size) a.phase (get_or a.place.now a.pivot 0)) (sym c.pivot_number-number.ensures ∙ c.if-number-ne0.false) in
-    let answer_is : (let a = c.args in measurement_answer a.limit a.component.now a.place.now a.x a.z a.phase a.pivot a.width a.join ≡ measurement_of c.with_pivot-made.result) = let a = c.args in
+    let answer_is : (let a = c.args in measurement_answer a.limit a.component.now a.place.now a.x a.z a.phase a.pivot a.width a.join ≡ answer_of c.with_pivot-made.result) = let a = c.args in
     passed.0
     ∙ sym (c.with_pivot-made.ensures
     ∙ ap (λ (act : ActivePauliAction). measurement a.limit act a.phase c.wide8-local.result) c.local_action-action.ensures
     ∙ ap (λ (p : ℕ). measurement a.limit (local_action_of a.place.now a.x a.z a.phase a.width a.join.size) a.phase p) c.wide8-local.ensures) in
     let a = c.args in
-    let kernel = c.in-Built.kernel in
-    settled_given (answer_is ∙ ap measurement_of c.in-Built.is) refl (record {
+    let kernel = c.in-Ok.kernel in
+    settled_given (answer_is ∙ ap answer_of c.in-Ok.is) refl (record {
       sums = c.measured.ensures;
-      step = c.put_step.ensures;
+      step = c.put-in-Ok.ensures;
       size = c.raise_size.ensures;
-      row = c.put_measurement.ensures
+      row = c.put.ensures
           ∙ ap (λ (h : RowHead). patch (19 * a.tally.measurements) (measurement_row h.component h.merge_offset h.merge_count kernel (eqb a.join.size 1)) a.measurements.now) c.head_of.ensures;
     })

@@ -2,7 +2,7 @@
 -- each place of the loop's body asks what a lemma on one turn gives.
 use Prim.Native.Nat.{◌-◌}
 use mathlib.Core.Path.{◌≡◌, refl, sym, ap, ◌∙◌, subst}
-use mathlib.Core.Logic.{inl, inr, ⊎_elim}
+use mathlib.Core.Logic.{inl, inr}
 use Prim.Native.Nat.{◌+◌, ◌≤◌}
 use native.Mathlib.Omega.{arith}
 use lib.ListN.{length, get_or, take, drop}
@@ -142,8 +142,8 @@ ignored-tally-requires c =
     let now = turn-now in
     quantum_room inv more x now
 
-pub put_step-requires : goal.put_step-requires
-put_step-requires c =
+pub put-requires : goal.put-requires
+put-requires c =
     let turn-now : get_or (instructions_of c.args.records.now) c.loop-i.i DormantBranch ≡ c.read-instruction.result = let words = c.args.records.now in
     instruction_at words c.loop-i.i DormantBranch (omega (arith, c.loop-i-test.true, c.loop-i.invariant.count)) ∙ sym c.read-instruction.ensures in
     let inv = c.loop-i.invariant in
@@ -188,7 +188,7 @@ loop-i-preserved-then-count-eq0 c =
     let through = let_through in
     let told = c.in-Rotation.is in
     let none_there = sym counted ∙ c.if-count-eq0.true in
-    ignored_goes inv more x now _ _ _ _ _ _ _ told through c.if-count-gt1.state c.ignored-tally.result _ c.ignored-tally.ensures none_there met c.put_step.ensures c.open-act.ensures.2 refl refl refl refl (record { steps = c.put_step.auto.steps ∙ inv.long.steps; merges = c.open-act.auto.merges ∙ inv.long.merges; sizes = inv.long.sizes; rotations = inv.long.rotations; promotions = inv.long.promotions; measurements = inv.long.measurements; groups = inv.long.groups })
+    ignored_goes inv more x now _ _ _ _ _ _ _ told through c.if-count-gt1.state c.ignored-tally.result _ c.ignored-tally.ensures none_there met c.put.ensures c.open-act.ensures.2 refl refl refl refl (record { steps = c.put.auto.rows ∙ inv.long.steps; merges = c.open-act.auto.merges ∙ inv.long.merges; sizes = inv.long.sizes; rotations = inv.long.rotations; promotions = inv.long.promotions; measurements = inv.long.measurements; groups = inv.long.groups })
 
 pub rotate-after-requires : goal.rotate-after-requires
 rotate-after-requires c =
@@ -591,8 +591,8 @@ loop-i-preserved-in-Measurement c =
     let told = c.in-Measurement.is in
     measure_goes inv more x now _ _ _ _ _ told through c.if-count-gt1.state met c.open-act.result.join c.open-act.ensures.1 c.measure-after.result.number c.measure-after.result.tally _ c.remove_state.new.state c.close_gap.new.order c.measure-after.ensures c.if-number-ne0-3.false c.remove_state.ensures c.close_gap.ensures c.open-act.ensures.2 refl refl (record { steps = c.measure-after.auto.steps ∙ inv.long.steps; merges = c.open-act.auto.merges ∙ inv.long.merges; sizes = c.measure-after.auto.sizes ∙ inv.long.sizes; rotations = inv.long.rotations; promotions = inv.long.promotions; measurements = c.measure-after.auto.measurements ∙ inv.long.measurements; groups = inv.long.groups })
 
-pub put_step-requires-in_default : goal.put_step-requires-in_default
-put_step-requires-in_default c =
+pub put-requires-in_default : goal.put-requires-in_default
+put-requires-in_default c =
     let turn-now : get_or (instructions_of c.args.records.now) c.loop-i.i DormantBranch ≡ c.read-instruction.result = let words = c.args.records.now in
     instruction_at words c.loop-i.i DormantBranch (omega (arith, c.loop-i-test.true, c.loop-i.invariant.count)) ∙ sym c.read-instruction.ensures in
     let inv = c.loop-i.invariant in
@@ -636,7 +636,7 @@ loop-i-preserved c =
     let now = turn-now in
     let through = let_through in
     let quiet = does_nothing _ inv.w _ _ x c.in_default.not-Rotation c.in_default.not-Promotion c.in_default.not-Measurement in
-    plain_goes inv more x now quiet.0 quiet.1 c.if-count-gt1.state met _ c.put_step-in_default.ensures c.open-act.ensures.2 refl refl refl refl (record { steps = c.put_step-in_default.auto.steps ∙ inv.long.steps; merges = c.open-act.auto.merges ∙ inv.long.merges; sizes = inv.long.sizes; rotations = inv.long.rotations; promotions = inv.long.promotions; measurements = inv.long.measurements; groups = inv.long.groups })
+    plain_goes inv more x now quiet.0 quiet.1 c.if-count-gt1.state met _ c.put-in_default.ensures c.open-act.ensures.2 refl refl refl refl (record { steps = c.put-in_default.auto.rows ∙ inv.long.steps; merges = c.open-act.auto.merges ∙ inv.long.merges; sizes = inv.long.sizes; rotations = inv.long.rotations; promotions = inv.long.promotions; measurements = inv.long.measurements; groups = inv.long.groups })
 
 pub write_counts-starts-requires : goal.write_counts-starts-requires
 write_counts-starts-requires c =

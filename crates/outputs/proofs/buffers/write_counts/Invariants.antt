@@ -1,12 +1,8 @@
 use mathlib.Core.Path.{◌≡◌}
-use Prim.Native.Nat.{◌-◌, ◌≤◌}
 use lib.ListN.{length, take, drop}
 use Rattle.outputs.specs.Buffers.{counts_from, counts_of}
 use Rattle.outputs.proofs.buffers.write_counts.Given as goal
 
 abbrev pub invariant-loop-c : goal.invariant-loop-c
-invariant-loop-c l = (l.c ≤ l.count) × (length l.groups ≡ length l.initial.groups)
+invariant-loop-c l = (length l.groups ≡ length l.initial.groups)
     × (counts_from l.c (drop l.c (take l.count l.size)) (record { groups = l.groups; start = l.start; used = l.used }) ≡ counts_of (take l.count l.size) l.initial.groups)
-
-abbrev pub decreases-loop-c : goal.decreases-loop-c
-decreases-loop-c l = l.count - l.c
