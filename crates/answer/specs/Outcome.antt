@@ -1,9 +1,12 @@
 -- What an answer says, the code's and the definition's: the values of a plan's fields, or the refusal.
-use Rattle.std.specs.Prelude.{ℕ, length, Bool, Float}
+use Rattle.std.specs.Prelude.{ℕ, length, Bool, Float, Result as Answered, Ok, Err}
 use Rattle.definition.specs.WholeWorks.{WholeWorks}
 use Rattle.definition.specs.Plan.{Plan, Result, planned, refused_at}
 use Rattle.tally.specs.Tally.{works_of}
 use Rattle.outputs.specs.declared.WordCounts.{WordCounts}
+use Rattle.refusals.specs.Numbers.{number_of}
+use Rattle.refusals.specs.declared.Refusal.{Refusal}
+use Rattle.answer.specs.declared.ActiveComponentPlan.{ActiveComponentPlan}
 use Rattle.answer.specs.declared.Planned.{Planned}
 use Rattle.answer.specs.declared.Planned.TheVariants as P
 
@@ -19,6 +22,11 @@ outcome_of (P.Plan p) =
     accepted p.selected p.initial_components p.component_count p.estimated_dense_work p.estimated_component_work
     p.dense_peak_dimension p.component_peak_live_dimension p.component_allocated_dimension (works_of p.whole_works) p.used
 outcome_of (P.Refused number index) = turned_away number index
+
+-- of an answer that its parts give
+abbrev pub outcome_for : Answered ActiveComponentPlan Refusal → Outcome
+outcome_for (Ok p) = outcome_of (P.Plan p)
+outcome_for (Err refusal) = turned_away (number_of refusal.reason) refusal.index
 
 -- how many words of the first six outputs a plan uses
 abbrev pub used_in : Plan → WordCounts

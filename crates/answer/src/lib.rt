@@ -61,14 +61,7 @@ pub fn unread_plan(initial_k: u64, dense_peak: u64) -> ActiveComponentPlan
         component_peak_live_dimension: 0,
         component_allocated_dimension: 0,
         whole_works: WholeWorks::WithoutQuotient { dense: 0 },
-        used: WordCounts {
-            steps: 0,
-            merges: 0,
-            sizes: 0,
-            rotations: 0,
-            promotions: 0,
-            measurements: 0,
-        },
+        used: WordCounts::default(),
     }
 }
 

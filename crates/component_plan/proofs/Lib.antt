@@ -1,3 +1,4 @@
 pub mod Filled
 pub mod Refusals
+pub mod Finished
 pub mod Demand

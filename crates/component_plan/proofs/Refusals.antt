@@ -1,6 +1,6 @@
 -- How the answers of the parts make the answer of the whole: the definition's result is its first refusal, whose tests the number of `lent_number` tells, or what
 -- the record pass and the walk give, and a refusal or a plan that read nothing leaves zeros.
-use Rattle.std.specs.Prelude.{Option, Some, None}
+use Rattle.std.specs.Prelude.{Option, Some, None, Result as Answered, Ok, Err, IsErr, IsErrAnd}
 use Prim.Native.Nat.{ℕ, ◌/◌, ◌%◌, ◌<◌, ◌≤◌}
 use native.Mathlib.Omega.{arith}
 use mathlib.Core.Path.{◌≡◌, refl, sym, ap, ap₂, ◌∙◌, subst}
@@ -13,6 +13,8 @@ use lib.Ieee.{fin}
 use borrow.Author.Tests.{ltb-false, lt-ltb, le-ltb, eq-eqb, ne_eqb}
 use Rattle.kernels.specs.Bits.{dimension}
 use Rattle.refusals.specs.Answer.{Answer, given, refused}
+use Rattle.refusals.specs.Numbers.{number_of}
+use Rattle.refusals.specs.declared.Refusal.{Refusal}
 use Rattle.records.specs.Pass.{Checked, record_pass}
 use Rattle.records.specs.declared.Head.{Head}
 use Rattle.definition.specs.Components.{allocated_for}
@@ -22,17 +24,14 @@ use Rattle.definition.specs.Plan.{Lengths, Plan, Result, planned, refused_at, ch
 use Rattle.definition.proofs.Steps.{cond_yes, cond_no}
 use Rattle.tally.specs.declared.WholeWorks.TheVariants as Whole
 use Rattle.answer.specs.declared.ActiveComponentPlan.{ActiveComponentPlan}
-use Rattle.answer.specs.declared.Planned.{Planned}
 use Rattle.answer.specs.declared.Planned.TheVariants as P
 use Rattle.walk.specs.declared.Summary.{Summary}
-use Rattle.walk.specs.declared.Walked as Declared
-use Rattle.walk.specs.declared.Walked.TheVariants as W
 use Rattle.outputs.specs.Outputs.{Buffers, lengths_of, SameLengths}
 use Rattle.walk.specs.Walking.{Ended, WalkEnds}
 use Rattle.lent.specs.Lent.{peak_answer, head_answer, Held, lent_number}
 use Rattle.outputs.specs.declared.WordCounts.{WordCounts}
-use Rattle.answer.specs.Outcome.{accepted, turned_away, outcome_of, used_in, outcome_in}
-use Rattle.component_plan.specs.Answer.{Answers, ReadAnswers}
+use Rattle.answer.specs.Outcome.{accepted, turned_away, outcome_for, used_in, outcome_in}
+use Rattle.component_plan.specs.Answer.{Answers, Filled}
 
 -- ---- refusals 2 to 4
 
@@ -83,36 +82,32 @@ module _ (h : Head) (ws : List ℕ) (l : Lengths) (dense_peak number : ℕ) (tol
 
 -- ---- the walk's answer
 
-walk_stopped : (x : Walked) (number index : ℕ) (b : Buffers) → WalkEnds x (W.Stopped number index) b → x ≡ stopped number index
-walk_stopped (finished w) number index b e = absurd e
-walk_stopped (stopped n i) number index b e = ap₂ stopped e.0 e.1
+pub walk_stops : (x : Walked) (refusal : Refusal) (b : Buffers) → WalkEnds x (Err refusal) b → x ≡ stopped (number_of refusal.reason) refusal.index
+walk_stops (finished w) refusal b e = absurd e
+walk_stops (stopped n i) refusal b e = ap₂ stopped e.0 e.1
 
-walk_finished : (x : Walked) (s : Summary) (b : Buffers) → WalkEnds x (W.Finished s) b → (w : Walk) × (x ≡ finished w) × Ended w s b
-walk_finished (finished w) s b e = (w, refl, e)
-walk_finished (stopped n i) s b e = absurd e
+pub walk_finishes : (x : Walked) (s : Summary) (b : Buffers) → WalkEnds x (Ok s) b → (w : Walk) × (x ≡ finished w) × Ended w s b
+walk_finishes (finished w) s b e = (w, refl, e)
+walk_finishes (stopped n i) s b e = absurd e
 
-pub walk_stops : (x : Walked) (r : Declared.Walked) (number index : ℕ) (b : Buffers) → r ≡ W.Stopped number index → WalkEnds x r b → x ≡ stopped number index
-walk_stops x r number index b told e = walk_stopped x number index b (subst (λ (q : Declared.Walked). WalkEnds x q b) told e)
+-- ---- the answer and the buffers that go with a result
 
-pub walk_finishes : (x : Walked) (r : Declared.Walked) (s : Summary) (b : Buffers) → r ≡ W.Finished s → WalkEnds x r b → (w : Walk) × (x ≡ finished w) × Ended w s b
-walk_finishes x r s b told e = walk_finished x s b (subst (λ (q : Declared.Walked). WalkEnds x q b) told e)
-
--- ---- the answer of a program whose records are read
-
-pub read-refused : (h : Head) (dense_peak : ℕ) (ws : List ℕ) (before after : Buffers) (number index : ℕ)
-    → plan_read h ws (lengths_of before) dense_peak ≡ refused_at number index → ReadAnswers h dense_peak ws before after (P.Refused number index)
-read-refused h dense_peak ws before after number index e = record {
+pub filled_refused : (result : Result) (before after : Buffers) (refusal : Refusal) → result ≡ refused_at (number_of refusal.reason) refusal.index → Filled result before after (Err refusal)
+filled_refused result before after refusal e = record {
   answer = sym (ap outcome_in e);
-  held = λ p f. let same : refused_at number index ≡ planned p = sym e ∙ f in let z : ◌≡◌ {A = ℕ} 0 1 = cc in absurd (omega arith);
+  held = λ p f. let same : refused_at (number_of refusal.reason) refusal.index ≡ planned p = sym e ∙ f in let z : ◌≡◌ {A = ℕ} 0 1 = cc in absurd (omega arith);
 }
 
-pub read_planned : (h : Head) (dense_peak : ℕ) (ws : List ℕ) (before after : Buffers) (p : Plan) (r : Planned)
-    → plan_read h ws (lengths_of before) dense_peak ≡ planned p → outcome_of r ≡ outcome_in (planned p) → Held (planned p) before after
-    → ReadAnswers h dense_peak ws before after r
-read_planned h dense_peak ws before after p r e answer held = record {
+pub filled_planned : (result : Result) (before after : Buffers) (p : Plan) (r : Answered ActiveComponentPlan Refusal)
+    → result ≡ planned p → outcome_for r ≡ outcome_in (planned p) → Held (planned p) before after → Filled result before after r
+filled_planned result before after p r e answer held = record {
   answer = answer ∙ sym (ap outcome_in e);
   held = λ q f. subst (λ (x : Result). Held x before after) (sym e ∙ f) held;
 }
+
+-- of an equal result
+pub filled_same : {a b : Result} {before after : Buffers} {r : Answered ActiveComponentPlan Refusal} → a ≡ b → Filled b before after r → Filled a before after r
+filled_same {before = before} {after = after} {r = r} e f = subst (λ (x : Result). Filled x before after r) (sym e) f
 
 -- the scalar fields of a finished walk, and its whole works
 pub plan_same : (initial dense_peak : ℕ) (w : Walk) (s : Summary) (b : Buffers) (allocated : ℕ) (whole : WholeWorks) (used : WordCounts) (r : ActiveComponentPlan)
@@ -120,10 +115,10 @@ pub plan_same : (initial dense_peak : ℕ) (w : Walk) (s : Summary) (b : Buffers
     → allocated ≡ allocated_for w.longest
     → whole ≡ whole_works_of w.whole
     → used ≡ used_in (plan_from initial dense_peak w)
-    → outcome_of (P.Plan r)
+    → outcome_for (Ok r)
     ≡ accepted (chosen s.tally.quantum s.tally.dense s.tally.work allocated dense_peak) initial s.count s.tally.dense s.tally.work dense_peak
     s.tally.peak allocated whole used
-    → outcome_of (P.Plan r) ≡ outcome_in (planned (plan_from initial dense_peak w))
+    → outcome_for (Ok r) ≡ outcome_in (planned (plan_from initial dense_peak w))
 unfolding plan_from
 plan_same initial dense_peak w s b allocated whole used r ended all same counted e =
     e ∙ fields ended.sums.quantum ended.sums.dense ended.sums.work all ended.count ended.sums.peak same counted
@@ -148,9 +143,9 @@ pub unread_same : (initial dense_peak : ℕ) (r : ActiveComponentPlan)
       whole_works = Whole.WithoutQuotient 0;
       used = record { steps = 0; merges = 0; sizes = 0; rotations = 0; promotions = 0; measurements = 0 };
     }
-    → outcome_of (P.Plan r) ≡ outcome_in (planned (unread_plan initial dense_peak))
+    → outcome_for (Ok r) ≡ outcome_in (planned (unread_plan initial dense_peak))
 unfolding unread_plan
-unread_same initial dense_peak r e = ap (λ (p : ActiveComponentPlan). outcome_of (P.Plan p)) e
+unread_same initial dense_peak r e = ap (λ (p : ActiveComponentPlan). outcome_for (Ok p)) e
 
 -- ---- zeros
 
@@ -207,13 +202,7 @@ module _ (h : Head) (ws : List ℕ) (l : Lengths) (dense_peak : ℕ) (decided : 
   pub plan_is_read : unread h ≡ false → plan_of h ws l ≡ plan_read h ws l dense_peak
   plan_is_read e = headed h ws l (given dense_peak) decided ∙ cond_no (unread h) _ _ e
 
--- the answer and the buffers, once the definition's result is known
-pub answers : (h : Head) (ws : List ℕ) (before after : Buffers) (result : Result) (r : Planned)
-    → plan_of h ws (lengths_of before) ≡ result → outcome_of r ≡ outcome_in result → Held result before after → Answers h ws before after r
-answers h ws before after result r e answer held = record {
-  answer = answer ∙ sym (ap outcome_in e);
-  held = subst (λ (x : Result). Held x before after) (sym e) held;
-}
+-- ---- the answer of the whole, with zeros after a refusal
 
 -- a refusal's outcome is a refusal's
 pub away : (result : Result) (number index : ℕ) → turned_away number index ≡ outcome_in result → result ≡ refused_at number index
@@ -221,23 +210,28 @@ away (planned p) number index e = let z : ◌≡◌ {A = ℕ} 0 1 = cc in absurd
 away (refused_at n i) number index e = let same : n ≡ number = cc in let at : i ≡ index = cc in ap₂ refused_at same at
 
 -- and a plan's is a plan's
-stays : (result : Result) (x : ActiveComponentPlan) → outcome_of (P.Plan x) ≡ outcome_in result → (p : Plan) × (result ≡ planned p)
+stays : (result : Result) (x : ActiveComponentPlan) → outcome_for (Ok x) ≡ outcome_in result → (p : Plan) × (result ≡ planned p)
 stays (planned p) x e = (p, refl)
 stays (refused_at n i) x e = let z : ◌≡◌ {A = ℕ} 0 1 = cc in absurd (omega arith)
 
--- what reading the records answered is the answer, with zeros after a refusal
-module _ (h : Head) (dense_peak : ℕ) (ws : List ℕ) (before between : Buffers) (r : Planned)
-    (read : plan_of h ws (lengths_of before) ≡ plan_read h ws (lengths_of before) dense_peak) (a : ReadAnswers h dense_peak ws before between r) where
-  pub refused_answers : (number index : ℕ) (after : Buffers) → r ≡ P.Refused number index → SameLengths before between → Held (refused_at 0 0) between after
-      → Answers h ws before after (P.Refused number index)
-  refused_answers number index after e same zeros =
-      let gone = away (plan_read h ws (lengths_of before) dense_peak) number index (sym (ap outcome_of e) ∙ a.answer) in
-      answers h ws before after (refused_at number index) (P.Refused number index) (read ∙ gone) refl (zeros_held 0 0 number index before between after same zeros)
+pub planned_answers : (h : Head) (ws : List ℕ) (before after : Buffers) (r : Answered ActiveComponentPlan Refusal) (x : ActiveComponentPlan)
+    → Filled (plan_of h ws (lengths_of before)) before after r → r ≡ Ok x → Answers h ws before after (P.Plan x)
+planned_answers h ws before after r x f e =
+    let told = sym (ap outcome_for e) ∙ f.answer in
+    let plan = stays (plan_of h ws (lengths_of before)) x told in record {
+      answer = told;
+      held = subst (λ (y : Result). Held y before after) (sym plan.1) (f.held plan.0 plan.1);
+    }
 
-  pub planned_answers : (x : ActiveComponentPlan) → r ≡ P.Plan x → Answers h ws before between r
-  planned_answers x e =
-      let plan = stays (plan_read h ws (lengths_of before) dense_peak) x (sym (ap outcome_of e) ∙ a.answer) in
-      answers h ws before between (planned plan.0) r (read ∙ plan.1) (a.answer ∙ ap outcome_in plan.1) (a.held plan.0 plan.1)
+pub refused_answers : (h : Head) (ws : List ℕ) (before between after : Buffers) (r : Answered ActiveComponentPlan Refusal) (refusal : Refusal) (number : ℕ)
+    → Filled (plan_of h ws (lengths_of before)) before between r → r ≡ Err refusal → number ≡ number_of refusal.reason → SameLengths before between
+    → Held (refused_at 0 0) between after → Answers h ws before after (P.Refused number refusal.index)
+refused_answers h ws before between after r refusal number f e is same zeros =
+    let told = ap (λ (n : ℕ). turned_away n refusal.index) is ∙ sym (ap outcome_for e) ∙ f.answer in
+    let gone = away (plan_of h ws (lengths_of before)) number refusal.index told in record {
+      answer = told;
+      held = subst (λ (y : Result). Held y before after) (sym gone) (zeros_held 0 0 number refusal.index before between after same zeros);
+    }
 
 -- ---- which records are read
 
@@ -253,3 +247,9 @@ unread_expected h n = or-true (ltb h.max_k 8) (not (eqb h.nexpvals 0)) (ap not (
 
 pub unread_neither : (h : Head) → 8 ≤ h.max_k → h.nexpvals ≡ 0 → unread h ≡ false
 unread_neither h large e = ap (λ (a : Bool). a || not (eqb h.nexpvals 0)) (le-ltb h.max_k 8 large) ∙ ap not (eq-eqb h.nexpvals 0 e)
+
+-- what `?` hands on
+pub filled_error : (result : Result) (before after : Buffers) (r : Answered ActiveComponentPlan Refusal) (refusal : Refusal) → IsErr r → IsErrAnd r (λ e. e ≡ refusal)
+    → result ≡ refused_at (number_of refusal.reason) refusal.index → Filled result before after r
+filled_error result before after (Ok p) refusal is same e = let z : ◌≡◌ {A = ℕ} 0 1 = cc in absurd (omega arith)
+filled_error result before after (Err x) refusal is same e = filled_refused result before after x (e ∙ ap (λ (y : Refusal). refused_at (number_of y.reason) y.index) (sym same))

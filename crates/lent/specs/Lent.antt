@@ -5,8 +5,6 @@ use Rattle.records.specs.declared.Head.{Head}
 use Rattle.definition.specs.Plan.{Result, held_after, max_dimension, ceiling_refused}
 use Rattle.outputs.specs.Outputs.{Buffers}
 use Rattle.walk.specs.declared.Summary.{Summary}
-use Rattle.lent.specs.declared.DensePeak.{DensePeak}
-use Rattle.lent.specs.declared.DensePeak.TheVariants.{Given, Refused}
 
 -- 1: "max_k >= 62", which is the ceiling since 02's CR 4; else the dense peak
 abbrev pub peak_answer : Option ℕ → Answer ℕ
@@ -16,11 +14,6 @@ peak_answer (Some dense_peak) = given dense_peak
 -- 02, CR 4: "A ceiling outside 1 to 62 gives 24, before 1"
 abbrev pub head_answer : Head → Answer ℕ
 head_answer h = cond (ceiling_refused h) (refused 24) (peak_answer (max_dimension h))
-
--- what an answer of `dense_peak` says
-abbrev pub dense_peak_of : DensePeak → Answer ℕ
-dense_peak_of (Given dense_peak) = given dense_peak
-dense_peak_of (Refused number) = refused number
 
 -- refusals 2 to 4, or 0: "2: record words no multiple of 8, or over 8,192"; 3 where a buffer is short; "4: initial_k > 512"
 abbrev pub lent_number : ℕ → ℕ → Bool → ℕ

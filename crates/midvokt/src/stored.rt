@@ -6,8 +6,9 @@ ghost use Rattle.midvokt.specs.Reply.{laid_out};
 ghost use Rattle.midvokt.specs.Stored.{store_number, store_words, StoreReplies, load_number, load_words, LoadReplies};
 
 use records::Head;
+use refusals::Reason;
 use store::{Stored, store};
-use stored_plan::{Loaded, load};
+use stored_plan::{StoredOutputs, StoredPlan, load};
 
 // Word i, and 0 past the last.
 fn word_or_zero(words: &[u64], i: usize) -> u64
@@ -48,39 +49,41 @@ fn store_words(stored: Stored) -> [u64; 2]
 }
 
 // 0 for a plan, and else the refusal's number.
-fn load_number(loaded: Loaded) -> u64
+fn load_number(loaded: Result<StoredPlan, Reason>) -> u64
     ensures { result ≡ load_number (Loading.outcome_of loaded) }
 {
     match loaded {
-        Loaded::Plan { scalars, counts } => 0,
-        Loaded::Refused { number } => number,
+        Ok(_) => 0,
+        Err(reason) => reason.number(),
     }
 }
 
-// 0, the eight scalar words and the six counts.
-fn load_words(loaded: Loaded) -> [u64; 15]
+// 0, the eight scalar words and the six counts; all zero after a refusal.
+fn load_words(loaded: Result<StoredPlan, Reason>) -> [u64; 15]
     ensures { result ≡ load_words (Loading.outcome_of loaded) }
 {
-    match loaded {
-        Loaded::Plan { scalars, counts } => [
-            0,
-            scalars.selected,
-            scalars.initial_components,
-            scalars.component_count,
-            scalars.estimated_dense_work,
-            scalars.estimated_component_work,
-            scalars.dense_peak_dimension,
-            scalars.component_peak_live_dimension,
-            scalars.component_allocated_dimension,
-            counts.steps as u64,
-            counts.merges as u64,
-            counts.sizes as u64,
-            counts.rotations as u64,
-            counts.promotions as u64,
-            counts.measurements as u64,
-        ],
-        Loaded::Refused { number } => [0; 15],
-    }
+    let Ok(plan) = loaded else {
+        return [0; 15];
+    };
+    let scalars = plan.scalars;
+    let counts = plan.counts;
+    [
+        0,
+        scalars.selected,
+        scalars.initial_components,
+        scalars.component_count,
+        scalars.estimated_dense_work,
+        scalars.estimated_component_work,
+        scalars.dense_peak_dimension,
+        scalars.component_peak_live_dimension,
+        scalars.component_allocated_dimension,
+        counts.steps as u64,
+        counts.merges as u64,
+        counts.sizes as u64,
+        counts.rotations as u64,
+        counts.promotions as u64,
+        counts.measurements as u64,
+    ]
 }
 
 // Plans a program into the seven buffers and stores the plan in the file; 0, or the refusal's number.
@@ -138,15 +141,15 @@ pub fn midvokt_load(
 ) -> u64
     ensures { LoadReplies file.now (record { steps = steps.old; merges = merges.old; sizes = sizes.old; rotations = rotations.old; promotions = promotions.old; measurements = measurements.old }) (record { steps = steps.new; merges = merges.new; sizes = sizes.new; rotations = rotations.new; promotions = promotions.new; measurements = measurements.new }) res.old res.new result }
 {
-    let loaded = load(
-        file,
+    let mut out = StoredOutputs {
         steps,
         merges,
         sizes,
         rotations,
         promotions,
         measurements,
-    );
+    };
+    let loaded = load(file, &mut out);
     let words = load_words(loaded);
     lay_out(&words[..], res);
     load_number(loaded)

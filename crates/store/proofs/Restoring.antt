@@ -1,4 +1,5 @@
 -- Reading what a call has stored: the bytes that the call left are the file of the definition's plan, and every accepted plan is read back from its file.
+use Rattle.std.specs.Prelude.{Result as Answered}
 use mathlib.Core.Path.{◌≡◌, refl, sym, ap, ◌∙◌, subst}
 use mathlib.Core.Bool.{Bool, true, false}
 use mathlib.Core.List.{List}
@@ -14,7 +15,8 @@ use Rattle.component_plan.proofs.Filled.{front_of_padded}
 use Rattle.stored_plan.specs.Stored.{kept_of, file_of}
 use Rattle.stored_plan.specs.Reading.{Read, restored, trailer_word, read_file}
 use Rattle.stored_plan.specs.Loading.{Outputs, Loads, Restored, outcome_in, lengths_of}
-use Rattle.stored_plan.specs.declared.Loaded.{Loaded}
+use Rattle.refusals.specs.declared.Reason.{Reason}
+use Rattle.stored_plan.specs.declared.StoredPlan.{StoredPlan}
 use Rattle.stored_plan.proofs.Plans.{plan_restored, own_length}
 use Rattle.store.specs.declared.Stored.TheVariants as S
 use Rattle.store.specs.Storing as Storing
@@ -38,7 +40,7 @@ stored_plan size (planned p) n e = go (ltb size (length (file_of p))) refl
         let same : n ≡ length (file_of p) = cc in (p, refl, fits, same)
 
 -- what reading gives, given back
-gives_back : (p : Plan) (file : List ℕ) (before after : Outputs) (r : Loaded) → read_file file (lengths_of before) ≡ restored (kept_of p) → Loads file before after r
+gives_back : (p : Plan) (file : List ℕ) (before after : Outputs) (r : Answered StoredPlan Reason) → read_file file (lengths_of before) ≡ restored (kept_of p) → Loads file before after r
     → GivesBack p before after r
 gives_back p file before after r e a =
     let h = subst (λ (x : Read). Restored x before after) e a.held in record {

@@ -1,13 +1,15 @@
 -- What the contract of `load` says: its answer, and the six outputs, for what reading the file gives.
-use Rattle.std.specs.Prelude.{ℕ, ◌+◌, ◌*◌, ◌≤◌, ◌≡◌, List, [], ◌∷◌, length}
+use Rattle.std.specs.Prelude.{ℕ, ◌+◌, ◌*◌, ◌≤◌, ◌≡◌, List, [], ◌∷◌, length, Result, Ok, Err}
 use Rattle.definition.specs.Plan.{padded}
 use Rattle.file_words.specs.Words.{word_at}
 use Rattle.outputs.specs.declared.WordCounts.{WordCounts}
 use Rattle.stored_plan.specs.Stored.{Kept}
 use Rattle.stored_plan.specs.Reading.{Read, restored, refused, counts_of, read_file}
 use Rattle.stored_plan.specs.declared.ScalarWords.{ScalarWords}
-use Rattle.stored_plan.specs.declared.Loaded.{Loaded}
-use Rattle.stored_plan.specs.declared.Loaded.TheVariants as L
+use Rattle.refusals.specs.Numbers as Reasons
+use Rattle.refusals.specs.declared.Reason.{Reason}
+use Rattle.stored_plan.specs.declared.StoredPlan.{StoredPlan}
+use Rattle.stored_plan.specs.declared.StoredOutputs.{StoredOutputs}
 
 -- the six lent outputs
 pub record Outputs : Type 0 where
@@ -28,6 +30,26 @@ lengths_of b = record {
   measurements = length b.measurements;
 }
 
+-- what stands in the outputs that are lent
+abbrev pub outputs_of : StoredOutputs → Outputs
+outputs_of o = record {
+  steps = o.steps.now;
+  merges = o.merges.now;
+  sizes = o.sizes.now;
+  rotations = o.rotations.now;
+  promotions = o.promotions.now;
+  measurements = o.measurements.now;
+}
+
+-- each output is the one that was lent, and not another in its place
+pub record SameOutputs (before after : StoredOutputs) : Type 0 where
+  pub steps : after.steps.ghost_name ≡ before.steps.ghost_name
+  pub merges : after.merges.ghost_name ≡ before.merges.ghost_name
+  pub sizes : after.sizes.ghost_name ≡ before.sizes.ghost_name
+  pub rotations : after.rotations.ghost_name ≡ before.rotations.ghost_name
+  pub promotions : after.promotions.ghost_name ≡ before.promotions.ghost_name
+  pub measurements : after.measurements.ghost_name ≡ before.measurements.ghost_name
+
 -- the eight words and the counts, or the refusal's number
 pub data Outcome : Type 0 where
   given : (scalars : List ℕ) (counts : WordCounts) → Outcome
@@ -39,9 +61,9 @@ scalar_list s =
     ∷ s.dense_peak_dimension ∷ s.component_peak_live_dimension ∷ s.component_allocated_dimension ∷ []
 
 -- of the code's answer
-abbrev pub outcome_of : Loaded → Outcome
-outcome_of (L.Plan scalars counts) = given (scalar_list scalars) counts
-outcome_of (L.Refused number) = turned_away number
+abbrev pub outcome_of : Result StoredPlan Reason → Outcome
+outcome_of (Ok plan) = given (scalar_list plan.scalars) plan.counts
+outcome_of (Err reason) = turned_away (Reasons.number_of reason)
 
 -- of the definition's
 abbrev pub outcome_in : Read → Outcome
@@ -63,7 +85,7 @@ pub record Restored (r : Read) (before after : Outputs) : Type 0 where
   pub measurements : after.measurements ≡ restored_in (length before.measurements) (λ k. k.measurements) r
 
 -- the answer and every output are those of reading the file
-pub record Loads (file : List ℕ) (before after : Outputs) (r : Loaded) : Type 0 where
+pub record Loads (file : List ℕ) (before after : Outputs) (r : Result StoredPlan Reason) : Type 0 where
   pub answer : outcome_of r ≡ outcome_in (read_file file (lengths_of before))
   pub held : Restored (read_file file (lengths_of before)) before after
 

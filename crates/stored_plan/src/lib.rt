@@ -6,15 +6,17 @@ ghost use Rattle.std.specs.Prelude.{◌≡◌, map, ◌+◌, ◌*◌, ◌≤◌,
 ghost use Rattle.definition.specs.Lists.{numbers_from};
 ghost use Rattle.definition.specs.Plan.{padded};
 ghost use Rattle.file_words.specs.Words.{word_at, words_at};
-ghost use Rattle.stored_plan.specs.Reading.{file_refused, touch, odd_counts, outputs_short, read_file};
-ghost use Rattle.stored_plan.specs.Loading.{Loads, number_of, scalar_list, counts_at, SectionFits};
+ghost use Rattle.stored_plan.specs.Reading.{file_refused, touch, odd_counts, outputs_short, refused, read_file};
+ghost use Rattle.refusals.specs.Answer.{number_or_0};
+ghost use Rattle.stored_plan.specs.Loading.{Loads, Restored, SameOutputs, outputs_of, lengths_of, number_of, scalar_list, counts_at, SectionFits};
 
 use file_words::{get_words, word_at};
 use outputs::WordCounts;
 use outputs::buffers::clear_from;
+use refusals::Reason;
 
 // The words of the eight scalar fields, as a file has them.
-#[derive(Clone, Copy)]
+#[derive(Clone, Copy, Debug, PartialEq, Eq)]
 pub struct ScalarWords {
     pub selected: u64,
     pub initial_components: u64,
@@ -26,16 +28,22 @@ pub struct ScalarWords {
     pub component_allocated_dimension: u64,
 }
 
-// What reading gives: the eight scalar words and how many words each output has, or the refusal's number.
-#[derive(Clone, Copy)]
-pub enum Loaded {
-    Plan {
-        scalars: ScalarWords,
-        counts: WordCounts,
-    },
-    Refused {
-        number: u64,
-    },
+// What reading gives beside the outputs: the eight scalar words, and how many words each output has.
+#[derive(Clone, Copy, Debug, PartialEq, Eq)]
+pub struct StoredPlan {
+    pub scalars: ScalarWords,
+    pub counts: WordCounts,
+}
+
+// The six lent outputs that reading writes.
+#[derive(Drop)]
+pub struct StoredOutputs<'a> {
+    pub steps: &'a mut [u64],
+    pub merges: &'a mut [u64],
+    pub sizes: &'a mut [u64],
+    pub rotations: &'a mut [u64],
+    pub promotions: &'a mut [u64],
+    pub measurements: &'a mut [u64],
 }
 
 // Whether the bytes are no file at all: their number, or the length or the version in the trailer.
@@ -43,17 +51,11 @@ fn file_refused(file: &[u8]) -> bool
     ensures { result ≡ file_refused file.now }
 {
     let n = file.len();
-    if n < 128 {
-        return true;
-    }
-    if n % 8 != 0 {
+    if n < 128 || n % 8 != 0 {
         return true;
     }
     let trailer = n / 8 - 16;
-    if word_at(file, trailer + 14) != n as u64 {
-        return true;
-    }
-    word_at(file, trailer + 15) != 1
+    word_at(file, trailer + 14) != n as u64 || word_at(file, trailer + 15) != 1
 }
 
 // Whether the seven sections touch, in order, from word 0 to the trailer. No sum is formed that could wrap.
@@ -61,9 +63,8 @@ fn sections_touch(file: &[u8], trailer: usize) -> bool
     requires { 8 * (trailer + 16) ≤ length file.now }
     ensures { result ≡ touch 0 trailer (map (λ i. word_at file.now (trailer + i)) (numbers_from 0 14)) }
 {
-    let mut at: usize = 0;
-    let mut s: usize = 0;
-    while s < 7 {
+    let mut at = 0usize;
+    for s in 0..7usize {
         let start = word_at(file, trailer + 2 * s);
         let count = word_at(file, trailer + 2 * s + 1);
         if start != at as u64 {
@@ -73,7 +74,6 @@ fn sections_touch(file: &[u8], trailer: usize) -> bool
             return false;
         }
         at += count as usize;
-        s += 1;
     }
     at == trailer
 }
@@ -97,59 +97,46 @@ fn counts_at(file: &[u8], trailer: usize) -> WordCounts
 fn outputs_short(lent: WordCounts, counts: WordCounts) -> bool
     ensures { result ≡ outputs_short lent counts }
 {
-    if lent.steps < counts.steps {
-        return true;
-    }
-    if lent.merges < counts.merges {
-        return true;
-    }
-    if lent.sizes < counts.sizes {
-        return true;
-    }
-    if lent.rotations < counts.rotations {
-        return true;
-    }
-    if lent.promotions < counts.promotions {
-        return true;
-    }
-    lent.measurements < counts.measurements
+    lent.steps < counts.steps
+        || lent.merges < counts.merges
+        || lent.sizes < counts.sizes
+        || lent.rotations < counts.rotations
+        || lent.promotions < counts.promotions
+        || lent.measurements < counts.measurements
 }
 
 // Whether counts are not those of a plan with so many components.
 fn counts_odd(counts: WordCounts, components: u64) -> bool
     ensures { result ≡ odd_counts counts components }
 {
-    if counts.steps % 2 != 0 {
-        return true;
-    }
-    if counts.sizes as u64 != components {
-        return true;
-    }
-    if counts.rotations % 21 != 0 {
-        return true;
-    }
-    counts.measurements % 19 != 0
+    counts.steps % 2 != 0
+        || counts.sizes as u64 != components
+        || counts.rotations % 21 != 0
+        || counts.measurements % 19 != 0
 }
 
-// 21 to 23, or 0.
-fn load_number(file: &[u8], lent: WordCounts) -> u64
-    ensures { result ≡ number_of (read_file file.now lent) }
+// Refusals 21 to 23.
+fn check_file(file: &[u8], lent: WordCounts) -> Result<(), Reason>
+    ensures { number_or_0 result ≡ number_of (read_file file.now lent) }
 {
     if file_refused(file) {
-        return 21;
+        return Err(Reason::File);
     }
     let trailer = file.len() / 8 - 16;
     if !sections_touch(file, trailer) {
-        return 22;
+        return Err(Reason::Sections);
     }
     if word_at(file, trailer + 13) != 8 {
-        return 23;
+        return Err(Reason::Lengths);
     }
     let counts = counts_at(file, trailer);
     if counts_odd(counts, word_at(file, trailer - 6)) {
-        return 23;
+        return Err(Reason::Lengths);
     }
-    if outputs_short(lent, counts) { 23 } else { 0 }
+    if outputs_short(lent, counts) {
+        return Err(Reason::Lengths);
+    }
+    Ok(())
 }
 
 // Reads the section whose start and count are two words of the trailer, with zeros behind it.
@@ -180,45 +167,52 @@ fn scalars_at(file: &[u8], at: usize) -> ScalarWords
     }
 }
 
-// Reads a stored plan into the six outputs, or gives its first refusal, after which they are zero.
-pub fn load(
-    file: &[u8],
-    steps: &mut [u64],
-    merges: &mut [u64],
-    sizes: &mut [u64],
-    rotations: &mut [u64],
-    promotions: &mut [u64],
-    measurements: &mut [u64],
-) -> Loaded
-    ensures { Loads file.now (record { steps = steps.old; merges = merges.old; sizes = sizes.old; rotations = rotations.old; promotions = promotions.old; measurements = measurements.old }) (record { steps = steps.new; merges = merges.new; sizes = sizes.new; rotations = rotations.new; promotions = promotions.new; measurements = measurements.new }) result }
+// Zeroes the six outputs.
+fn clear_all(out: &mut StoredOutputs)
+    ensures same { SameOutputs out.old out.new }
+    ensures cleared { Restored (refused 0) (outputs_of out.old) (outputs_of out.new) }
 {
-    let lent = WordCounts {
-        steps: steps.len(),
-        merges: merges.len(),
-        sizes: sizes.len(),
-        rotations: rotations.len(),
-        promotions: promotions.len(),
-        measurements: measurements.len(),
-    };
-    let number = load_number(file, lent);
-    if number != 0 {
-        clear_from(steps, 0);
-        clear_from(merges, 0);
-        clear_from(sizes, 0);
-        clear_from(rotations, 0);
-        clear_from(promotions, 0);
-        clear_from(measurements, 0);
-        return Loaded::Refused { number };
+    clear_from(out.steps, 0);
+    clear_from(out.merges, 0);
+    clear_from(out.sizes, 0);
+    clear_from(out.rotations, 0);
+    clear_from(out.promotions, 0);
+    clear_from(out.measurements, 0);
+}
+
+// How many words each of the six outputs has room for.
+fn lengths(out: &StoredOutputs) -> WordCounts
+    ensures { result ≡ lengths_of (outputs_of out.now) }
+{
+    WordCounts {
+        steps: out.steps.len(),
+        merges: out.merges.len(),
+        sizes: out.sizes.len(),
+        rotations: out.rotations.len(),
+        promotions: out.promotions.len(),
+        measurements: out.measurements.len(),
+    }
+}
+
+// Reads a stored plan into the six outputs, or gives its first refusal, after which they are zero.
+pub fn load(file: &[u8], out: &mut StoredOutputs) -> Result<StoredPlan, Reason>
+    ensures same { SameOutputs out.old out.new }
+    ensures loads { Loads file.now (outputs_of out.old) (outputs_of out.new) result }
+{
+    let lent = lengths(out);
+    if let Err(reason) = check_file(file, lent) {
+        clear_all(out);
+        return Err(reason);
     }
     let trailer = file.len() / 8 - 16;
-    get_section(file, trailer, 0, steps);
-    get_section(file, trailer, 2, merges);
-    get_section(file, trailer, 4, sizes);
-    get_section(file, trailer, 6, rotations);
-    get_section(file, trailer, 8, promotions);
-    get_section(file, trailer, 10, measurements);
-    Loaded::Plan {
+    get_section(file, trailer, 0, out.steps);
+    get_section(file, trailer, 2, out.merges);
+    get_section(file, trailer, 4, out.sizes);
+    get_section(file, trailer, 6, out.rotations);
+    get_section(file, trailer, 8, out.promotions);
+    get_section(file, trailer, 10, out.measurements);
+    Ok(StoredPlan {
         scalars: scalars_at(file, trailer - 8),
         counts: counts_at(file, trailer),
-    }
+    })
 }

@@ -1,3 +1,3 @@
 pub mod Patches
-pub mod Answers
+pub mod Gathered
 pub mod Openings

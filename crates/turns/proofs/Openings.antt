@@ -1,4 +1,5 @@
 -- What a record asks and makes before its join, by its kind and by the tests of its width: a refusal, no sources, or the sources of its masks.
+use Rattle.std.specs.Prelude.{Option, None, Some, Result, Ok}
 use mathlib.Core.Path.{◌≡◌, sym, ap, subst, ◌∙◌}
 use mathlib.Core.List.{List, []}
 use mathlib.Core.Bool.{cond}
@@ -7,15 +8,16 @@ use native.Mathlib.Omega.{arith}
 use lib.Dec.{eqb}
 use lib.Ieee.{Float}
 use borrow.Author.Tests.{eq-eqb, ne_eqb}
-use Rattle.records.specs.declared.Instruction.{Instruction}
-use Rattle.records.specs.declared.Instruction.TheVariants.{Rotation, Measurement}
-use Rattle.definition.proofs.Steps.{cond_yes, cond_no}
+use Rattle.refusals.specs.Answer.{number_or_0}
+use Rattle.refusals.specs.declared.Reason.{Reason}
 use Rattle.outputs.specs.Buffers.{patch}
 use Rattle.positions.specs.Positions.{sources_in}
 use Rattle.tally.specs.Tally.{joining_of}
 use Rattle.tally.specs.declared.Joining.{Joining}
-use Rattle.turns.specs.Turns.{sources_at, number_before, sources_before, WhereJoined, no_joining, join_before}
-use Rattle.turns.specs.declared.Opening.{Opening}
+use Rattle.records.specs.declared.Instruction.{Instruction}
+use Rattle.records.specs.declared.Instruction.TheVariants.{Rotation, Measurement}
+use Rattle.definition.proofs.Steps.{cond_yes, cond_no}
+use Rattle.turns.specs.Turns.{sources_at, number_before, sources_before, WhereJoined, join_of_answer, join_before, Opened}
 use Rattle.turns.proofs.Patches.{patch_none}
 
 -- ---- a rotation
@@ -77,26 +79,22 @@ measurement_asked width asked {i} {w} {x} {z} {phase} {pivot} e pre h n = subst 
 -- ---- what was opened
 
 module _ (width offset : ℕ) (component size merges : List ℕ) (i : Instruction) where
-  pub opened_none : (n : ℕ) (r : Opening) → r ≡ record { number = n; join = no_joining }
-      → (number_before width i ≡ n) × (sources_before width (sources_at component size width) i ≡ [])
-      → (r.number ≡ number_before width i)
-      × (r.join ≡ join_before size (sources_before width (sources_at component size width) i))
-      × (merges ≡ patch offset (sources_before width (sources_at component size width) i) merges)
-  opened_none n r e s = (
-    ap (λ (q : Opening). q.number) e ∙ sym s.0,
-    ap (λ (q : Opening). q.join) e ∙ ap (λ (ws : List ℕ). join_before size ws) (sym s.1),
-    sym (ap (λ (ws : List ℕ). patch offset ws merges) s.1 ∙ patch_none offset merges),
-  )
+  pub opened_none : (r : Result (Option Joining) Reason) → join_of_answer r ≡ None
+      → (number_before width i ≡ number_or_0 r) × (sources_before width (sources_at component size width) i ≡ [])
+      → Opened width offset component size i r merges merges
+  opened_none r e s = record {
+    number = sym s.0;
+    join = e ∙ ap (λ (ws : List ℕ). join_before size ws) (sym s.1);
+    written = sym (ap (λ (ws : List ℕ). patch offset ws merges) s.1 ∙ patch_none offset merges);
+  }
 
   pub opened_some : (x z : ℕ) (j : Joining) (after : List ℕ)
       → (j ≡ joining_of size (sources_at component size width x z)) × (after ≡ patch offset (sources_at component size width x z) merges)
       → (number_before width i ≡ 0) × (sources_before width (sources_at component size width) i ≡ sources_at component size width x z)
-      → (◌≡◌ {A = ℕ} 0 (number_before width i))
-      × (j ≡ join_before size (sources_before width (sources_at component size width) i))
-      × (after ≡ patch offset (sources_before width (sources_at component size width) i) merges)
+      → Opened width offset component size i (Ok (Some j)) merges after
   unfolding sources_in
-  opened_some x z j after g s = (
-    sym s.0,
-    g.0 ∙ ap (λ (ws : List ℕ). join_before size ws) (sym s.1),
-    g.1 ∙ ap (λ (ws : List ℕ). patch offset ws merges) (sym s.1),
-  )
+  opened_some x z j after g s = record {
+    number = sym s.0;
+    join = ap (λ (q : Joining). Some q) g.0 ∙ ap (λ (ws : List ℕ). join_before size ws) (sym s.1);
+    written = g.1 ∙ ap (λ (ws : List ℕ). patch offset ws merges) (sym s.1);
+  }

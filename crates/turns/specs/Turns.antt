@@ -1,8 +1,9 @@
 -- What the contracts of the crate `turns` say, over the state's arrays as lists: what a record does before and after its join. 01, section 4, and "Where planning
 -- stops".
-use Rattle.std.specs.Prelude.{ℕ, ◌+◌, ◌*◌, ◌%◌, ◌^◌, ◌<◌, ◌≤◌, max, ◌≡◌, List, [], ◌∷◌, false, cond, eqb, leb, length, get_or, set, pos, Float}
-use Rattle.std.specs.Float.{fin}
-use Rattle.refusals.specs.Answer.{Answer, given, refused}
+use Rattle.std.specs.Prelude.{ℕ, ◌+◌, ◌*◌, ◌%◌, ◌^◌, ◌<◌, ◌≤◌, max, ◌≡◌, List, [], ◌∷◌, cond, eqb, leb, length, get_or, set, Float, Option, None, Some, Result, Ok, Err}
+use Rattle.refusals.specs.Answer.{Answer, given, refused, number_or_0}
+use Rattle.refusals.specs.Numbers.{number_of}
+use Rattle.refusals.specs.declared.Reason.{Reason}
 use Rattle.kernels.specs.Active.{action, rotation, measurement}
 use Rattle.kernels.specs.declared.active.ActivePauliAction.{ActivePauliAction}
 use Rattle.kernels.specs.declared.active.PrecomputedActivePauliRotationKernel.{PrecomputedActivePauliRotationKernel}
@@ -59,13 +60,21 @@ WhereJoined width asked RecordDetector = Unit
 WhereJoined width asked Expectation = Unit
 WhereJoined width asked DormantBranch = Unit
 
--- a join of no sources
-abbrev pub no_joining : Joining
-no_joining = record { count = 0; target = 0; size = 0; cost = fin false 0 (pos 0); whole_cost = 0; freed = 0 }
+-- the join of the sources: none where there are none
+abbrev pub join_before : List ℕ → List ℕ → Option Joining
+join_before size [] = None
+join_before size (t ∷ others) = Some (joining_of size (t ∷ others))
 
-abbrev pub join_before : List ℕ → List ℕ → Joining
-join_before size [] = no_joining
-join_before size (t ∷ others) = joining_of size (t ∷ others)
+-- the join that a call's answer has: none where it is a refusal
+abbrev pub join_of_answer : Result (Option Joining) Reason → Option Joining
+join_of_answer (Ok join) = join
+join_of_answer (Err reason) = None
+
+-- what opening a record does: the answer is 01's, and the sources stand in the merge list from the offset on
+pub record Opened (width offset : ℕ) (component size : List ℕ) (i : Instruction) (result : Result (Option Joining) Reason) (merges merges' : List ℕ) : Type 0 where
+  pub number : number_or_0 result ≡ number_before width i
+  pub join : join_of_answer result ≡ join_before size (sources_before width (sources_at component size width) i)
+  pub written : merges' ≡ patch offset (sources_before width (sources_at component size width) i) merges
 
 -- ---- after it
 
@@ -73,10 +82,10 @@ join_before size (t ∷ others) = joining_of size (t ∷ others)
 abbrev pub local_action_of : List ℕ → ℕ → ℕ → ℕ → ℕ → ℕ → ActivePauliAction
 local_action_of place x z phase width size = action size (local_of (x % 2 ^ width) place) (local_of (z % 2 ^ width) place) phase
 
--- an answer of 01 as a number and what was done: a refusal's number, or 0 and what holds then
-pub record Settled {K : Type 0} (answer : Answer K) (number : ℕ) (done : K → Type 0) : Type 0 where
-  pub refused_is : (n : ℕ) → answer ≡ refused n → number ≡ n
-  pub given_is : (k : K) → answer ≡ given k → (number ≡ 0) × done k
+-- a call's answer goes with 01's: a value where a kernel is given, and it is done with that kernel, or the refusal of the same number
+abbrev pub Settled : {K T : Type 0} → Answer K → Result T Reason → (T → K → Type 0) → Type 0
+Settled {K} answer (Ok value) done = (k : K) × (answer ≡ given k) × done value k
+Settled answer (Err reason) done = answer ≡ refused (number_of reason)
 
 -- what both kinds ask: masks that fit a word, sums that the join fits, and room for the step and the longest size
 pub record JoinedFits (place : List ℕ) (x z width index : ℕ) (join : Joining) (tally : Tally) (steps sizes : List ℕ) : Type 0 where
@@ -101,14 +110,18 @@ pub record RotationDone (width index : ℕ) (join : Joining) (tally next : Tally
   pub size : sizes' ≡ raised sizes join
   pub row : rotations' ≡ patch (21 * tally.rotations) (rotation_row join.target tally.merges join.count k) rotations
 
--- 14: 02, CR 4, "a component whose size is the ceiling or more", which is the limit here. "15: pivot >= k. 16: its coordinate is outside the target", and else the kernel, or 17 to 20
-abbrev pub measurement_answer : ℕ → List ℕ → List ℕ → ℕ → ℕ → ℕ → ℕ → ℕ → Joining → Answer PrecomputedActivePauliMeasurementKernel
-measurement_answer limit component place x z phase pivot width join =
+-- 14: 02, CR 4, "a component whose size is the ceiling or more", which is the limit here. "15: pivot >= k. 16: its coordinate is outside the target"
+abbrev pub pivot_answer : {K : Type 0} → ℕ → List ℕ → ℕ → ℕ → Joining → Answer K → Answer K
+pivot_answer limit component pivot width join rest =
     cond (leb limit join.size) (refused 14)
     (cond (leb width pivot) (refused 15)
-    (cond (eqb (get_or component pivot 0) join.target)
-    (measurement limit (local_action_of place x z phase width join.size) phase (get_or place pivot 0))
+    (cond (eqb (get_or component pivot 0) join.target) rest
     (refused 16)))
+
+-- 14 to 16, and else the kernel, or 17 to 20
+abbrev pub measurement_answer : ℕ → List ℕ → List ℕ → ℕ → ℕ → ℕ → ℕ → ℕ → Joining → Answer PrecomputedActivePauliMeasurementKernel
+measurement_answer limit component place x z phase pivot width join =
+    pivot_answer limit component pivot width join (measurement limit (local_action_of place x z phase width join.size) phase (get_or place pivot 0))
 
 pub record MeasurementDone (width index : ℕ) (join : Joining) (tally next : Tally) (steps sizes measurements steps' sizes' measurements' : List ℕ) (k : PrecomputedActivePauliMeasurementKernel) : Type 0 where
   pub sums : next ≡ measured_tally tally join width

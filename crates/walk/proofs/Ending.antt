@@ -1,5 +1,6 @@
 -- Where the walk's loop begins, the state, the sums and the buffers are the definition's start. Where it ends, the definition's walk is finished in the state that is
 -- reached, and the groups are that state's.
+use Rattle.std.specs.Prelude.{Ok}
 use mathlib.Core.Path.{◌≡◌, refl, sym, ap, ◌∙◌, subst}
 use mathlib.Core.List.{List, ◌++◌}
 use Prim.Native.Nat.{ℕ, ◌*◌, ◌/◌, ◌≤◌}
@@ -28,8 +29,8 @@ use Rattle.representation.proofs.Moving.{represents_start}
 use Rattle.representation.proofs.Groups.{GroupsWritten, groups_written}
 use Rattle.outputs.specs.Outputs.{Buffers, SameLengths, lengths_of}
 use Rattle.walk.specs.Walking.{WalkEnds, Walkable}
-use Rattle.walk.specs.declared.Walked.TheVariants as W
-use Rattle.walk.proofs.Reaching.{Reached, tracked, made, active_most, groups_small}
+use Rattle.walk.specs.Looping.{Reached}
+use Rattle.walk.proofs.Reaching.{tracked, made, active_most, groups_small}
 
 -- ---- the start
 
@@ -96,7 +97,7 @@ module _ (limit k : ℕ) (ws : List ℕ) (b : Buffers) (ok : Walkable k ws b) (i
 
   pub ends : (used : ℕ) (groups' : List ℕ) → used ≡ (counts_of (take s.count s.size) c.groups).used
       → groups' ≡ placed_up_to (counts_of (take s.count s.size) c.groups).start o s.component s.place s.width (counts_of (take s.count s.size) c.groups).groups
-      → WalkEnds (walk_from limit 0 (start k) (instructions_of ws)) (W.Finished (record { tally = t; count = s.count; groups = used }))
+      → WalkEnds (walk_from limit 0 (start k) (instructions_of ws)) (Ok (record { tally = t; count = s.count; groups = used }))
       (record {
         steps = c.steps;
         merges = c.merges;
@@ -116,7 +117,7 @@ module _ (limit k : ℕ) (ws : List ℕ) (b : Buffers) (ok : Walkable k ws b) (i
         measurements = c.measurements;
         groups = groups';
       } in
-      subst (λ (v : Walked). WalkEnds v (W.Finished (record { tally = t; count = s.count; groups = used })) after) (sym finishes) (record {
+      subst (λ (v : Walked). WalkEnds v (Ok (record { tally = t; count = s.count; groups = used })) after) (sym finishes) (record {
         sums = at.sums;
         count = at.rep.count;
         used = u ∙ groups_here.used;

@@ -4,4 +4,6 @@ pub mod Joining
 pub mod Stepping
 pub mod Turning
 pub mod Ending
+pub mod Making
+pub mod Turned
 pub mod Looping

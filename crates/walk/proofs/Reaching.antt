@@ -14,9 +14,9 @@ use Rattle.records.specs.Record.{instructions_of}
 use Rattle.records.specs.declared.Instruction.{Instruction}
 use Rattle.records.specs.declared.Instruction.TheVariants.{Promotion, DormantBranch}
 use Rattle.records.proofs.Laws.{instructions_length}
-use Rattle.definition.specs.Lists.{total, concat}
+use Rattle.definition.specs.Lists.{total}
 use Rattle.definition.specs.Components.{live_dimension}
-use Rattle.definition.specs.Walk.{Walk, step, start, walk_from, onward, Walked, no_step, ignored_step, promotion_step, rotation_step, measurement_step}
+use Rattle.definition.specs.Walk.{Walk, step, start, walk_from, onward, stopped, no_step, ignored_step, promotion_step, rotation_step, measurement_step}
 use Rattle.definition.specs.Plan.{groups_of}
 use Rattle.definition.specs.Connectivity.{active_start, active_after, is_promotion}
 use Rattle.definition.proofs.Steps.{Stepped, ignored, rotated, promoted, measured, recorded, detected, expected, branched, stepped, Run, done, more}
@@ -25,22 +25,9 @@ use Rattle.definition.proofs.Tracking.{Tracked, start_tracked, run_tracked}
 use Rattle.definition.proofs.Room.{or-false, Kept, Narrow, width_of, run_kept, start_kept, component_count, rows_most, steps_count, live_dimension_below, groups_most, passed_narrow, passed_promotions}
 use Rattle.state.specs.declared.State.{State}
 use Rattle.tally.specs.declared.Tally.{Tally}
-use Rattle.representation.specs.Represents.{Represents}
 use Rattle.outputs.specs.Outputs.{Buffers}
-use Rattle.walk.specs.Walking.{Begins, Tallied, WalkEnds, Walkable}
-use Rattle.walk.specs.declared.Walked.TheVariants as W
-
-pub record Reached (limit k : ℕ) (is : List Instruction) (i : ℕ) (w : Walk) (s : State) (t : Tally) (c : Buffers) : Type 0 where
-  pub run : Run limit (start k) (take i is) w
-  pub ahead : walk_from limit 0 (start k) is ≡ walk_from limit i w (drop i is)
-  pub rep : Represents s w.order w.components
-  pub sums : Tallied t w
-  pub steps_begin : Begins w.written.steps c.steps
-  pub merges_begin : Begins w.written.merges c.merges
-  pub sizes_begin : Begins w.longest c.sizes
-  pub rotations_begin : Begins (concat w.written.rotations) c.rotations
-  pub promotions_begin : Begins w.written.promotions c.promotions
-  pub measurements_begin : Begins (concat w.written.measurements) c.measurements
+use Rattle.walk.specs.Walking.{Walkable}
+use Rattle.walk.specs.Looping.{Reached}
 
 -- ---- runs
 
@@ -165,12 +152,8 @@ module _ (limit k : ℕ) (ws : List ℕ) (b : Buffers) (ok : Walkable k ws b) (i
     goes_on x e = at.ahead ∙ ap (walk_from limit i w) (next_is x e)
 
     -- a refusal of the next step is where the walk stops
-    pub stops : (x : Instruction) (n : ℕ) (after : Buffers) → get_or is i DormantBranch ≡ x → step limit w x ≡ refused n
-        → WalkEnds (walk_from limit 0 (start k) is) (W.Stopped n i) after
-    stops x n after e f =
-        subst (λ (v : Walked). WalkEnds v (W.Stopped n i) after)
-        (sym (goes_on x e ∙ ap (λ (a : Answer Walk). onward a i (λ v. walk_from limit (suc i) v (drop (suc i) is))) f))
-        (refl, refl)
+    pub stops : (x : Instruction) (n : ℕ) → get_or is i DormantBranch ≡ x → step limit w x ≡ refused n → walk_from limit 0 (start k) is ≡ stopped n i
+    stops x n e f = goes_on x e ∙ ap (λ (a : Answer Walk). onward a i (λ v. walk_from limit (suc i) v (drop (suc i) is))) f
 
     -- an accepted one is one record more
     pub run_next : (x : Instruction) (v : Walk) → get_or is i DormantBranch ≡ x → step limit w x ≡ given v

@@ -23,7 +23,7 @@ use Rattle.records.specs.declared.Instruction.{Instruction}
 use Rattle.records.specs.declared.Instruction.TheVariants.{Rotation, Promotion, RecordMeasurement, RecordDetector, Measurement, Expectation, DormantBranch}
 use Rattle.definition.specs.Lists.{concat, remove_at}
 use Rattle.definition.specs.Components.{members_of, size_of, amplitudes, joining_cost, live_dimension, local_mask, two_f}
-use Rattle.definition.specs.Walk.{Walk, Join, join_of, local_action, when_given, no_step, ignored_step, promotion_step, rotation_step, measurement_step, step, start, walk_from, rotation_row, measurement_row}
+use Rattle.definition.specs.Walk.{Walk, Join, join_of, local_action, when_given, no_step, ignored_step, promotion_step, rotation_step, measurement_step, step, start, walk_from, stopped, rotation_row, measurement_row}
 use Rattle.definition.specs.Connectivity.{NoRepeats, ActiveOrder, active_start, active_after}
 use Rattle.definition.proofs.Counting.{same_or_not, length_remove_at}
 use Rattle.definition.proofs.Steps.{cond_yes, cond_no}
@@ -43,10 +43,10 @@ use Rattle.representation.specs.Represents.{Represents}
 use Rattle.representation.proofs.Moving.{represents_promotion, before_removal, represents_removal}
 use Rattle.representation.proofs.Sums.{live_removal, live_promotion}
 use Rattle.outputs.specs.Outputs.{Buffers, SameLengths, lengths_of}
-use Rattle.walk.specs.Walking.{Begins, Tallied, WalkEnds, Walkable}
-use Rattle.walk.specs.declared.Walked.TheVariants as W
+use Rattle.walk.specs.Walking.{Begins, Tallied, Walkable}
+use Rattle.walk.specs.Looping.{Reached}
 use Rattle.turns.specs.Turns.{raised, sources_at, GatherFits, number_before, sources_before, WhereJoined, local_action_of, JoinedFits, rotation_answer, RotationDone, measurement_answer, MeasurementDone, PromotionFits, PromotionDone}
-use Rattle.walk.proofs.Reaching.{Reached, few_records, tracked, width_next, made, made_next, kept, live_small, quantum_small, steps_written, rows_written, rotations_wide, measurements_wide, run_next, stops}
+use Rattle.walk.proofs.Reaching.{few_records, tracked, width_next, made, made_next, kept, live_small, quantum_small, steps_written, rows_written, rotations_wide, measurements_wide, run_next, stops}
 use Rattle.walk.proofs.Joining as J
 use Rattle.walk.proofs.Filling.{begins_patch, begins_more, begins_set, begins_at, begins_row}
 use Rattle.walk.proofs.Stepping.{refused_before, ignores, rotates, measures}
@@ -269,10 +269,10 @@ module _ (limit k : ℕ) (ws : List ℕ) (b : Buffers) (ok : Walkable k ws b) (i
         rotation_same : rotation_answer limit u.place x z phase angle sine cosine s.width join.size ≡ rotation limit (local_action x z phase w j) phase angle sine cosine
         rotation_same = ap (λ a. rotation limit a phase angle sine cosine) (local_same phase)
 
-        pub rotation_stops : (n : ℕ) (after : Buffers) → rotation_answer limit u.place x z phase angle sine cosine s.width join.size ≡ refused n
-            → WalkEnds (walk_from limit 0 (start k) (instructions_of ws)) (W.Stopped n i) after
-        rotation_stops n after e =
-            stops limit k ws b ok i upto w s t c at next (Rotation width x z phase angle sine cosine) n after is_now
+        pub rotation_stops : (n : ℕ) → rotation_answer limit u.place x z phase angle sine cosine s.width join.size ≡ refused n
+            → walk_from limit 0 (start k) (instructions_of ws) ≡ stopped n i
+        rotation_stops n e =
+            stops limit k ws b ok i upto w s t c at next (Rotation width x z phase angle sine cosine) n is_now
             (rotates limit w width x z phase angle sine cosine wide active ∙ ap (λ a. when_given a (λ q. given (rotation_step w j q))) (sym rotation_same ∙ e))
 
         pub rotation_goes : (q : PrecomputedActivePauliRotationKernel) (t' : Tally) (c' : Buffers)
@@ -351,9 +351,9 @@ module _ (limit k : ℕ) (ws : List ℕ) (b : Buffers) (ok : Walkable k ws b) (i
             (λ h e. J.pivot_at w roll tr s at.rep few x z active narrow u to pivot h e)
             ∙ ap (λ a. when_given a (λ q. given (measurement_step w j pivot q))) (sym tested_same)
 
-        pub measurement_stops : (n : ℕ) (after : Buffers) → answer ≡ refused n → WalkEnds (walk_from limit 0 (start k) (instructions_of ws)) (W.Stopped n i) after
-        measurement_stops n after e =
-            stops limit k ws b ok i upto w s t c at next (Measurement width x z phase pivot) n after is_now
+        pub measurement_stops : (n : ℕ) → answer ≡ refused n → walk_from limit 0 (start k) (instructions_of ws) ≡ stopped n i
+        measurement_stops n e =
+            stops limit k ws b ok i upto w s t c at next (Measurement width x z phase pivot) n is_now
             (steps_so ∙ ap (λ a. when_given a (λ q. given (measurement_step w j pivot q))) e)
 
         -- what an answer with a kernel has passed
@@ -638,10 +638,10 @@ module _ (limit k : ℕ) (ws : List ℕ) (b : Buffers) (ok : Walkable k ws b) (i
       go DormantBranch h = tt
 
   -- refusals 11 to 13
-  pub open_stops : (n : ℕ) (after : Buffers) → n ≡ number_before s.width now → (n ≡ 0 → ⊥) → WalkEnds (walk_from limit 0 (start k) (instructions_of ws)) (W.Stopped n i) after
-  open_stops n after e some =
+  pub open_stops : (n : ℕ) → n ≡ number_before s.width now → (n ≡ 0 → ⊥) → walk_from limit 0 (start k) (instructions_of ws) ≡ stopped n i
+  open_stops n e some =
       let same : number_before (length w.order) now ≡ n = ap (λ (d : ℕ). number_before d now) (sym at.rep.width) ∙ sym e in
-      stops limit k ws b ok i upto w s t c at next now n after refl (refused_before limit w now (λ f. some (sym same ∙ f)) ∙ ap refused same)
+      stops limit k ws b ok i upto w s t c at next now n refl (refused_before limit w now (λ f. some (sym same ∙ f)) ∙ ap refused same)
 
   -- the sources of a record that joins
   abbrev sources_now : Instruction → List ℕ

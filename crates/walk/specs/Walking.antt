@@ -1,5 +1,7 @@
 -- What the contract of `walk` says: it stops where the definition's walk stops, or leaves in front of each buffer what the definition's walk has written.
-use Rattle.std.specs.Prelude.{ℕ, ◌/◌, ◌%◌, ◌^◌, ◌≤◌, ◌≡◌, List, false, length, take}
+use Rattle.std.specs.Prelude.{ℕ, ◌/◌, ◌%◌, ◌^◌, ◌≤◌, ◌≡◌, List, false, length, take, Result, Ok, Err}
+use Rattle.refusals.specs.Numbers.{number_of}
+use Rattle.refusals.specs.declared.Refusal.{Refusal}
 use Rattle.records.specs.Pass.{Passed, record_pass}
 use Rattle.definition.specs.Lists.{concat}
 use Rattle.definition.specs.Components.{live_dimension}
@@ -8,8 +10,6 @@ use Rattle.definition.specs.Plan.{groups_of, words_refused, buffers_refused}
 use Rattle.tally.specs.declared.Tally.{Tally}
 use Rattle.outputs.specs.Outputs.{Buffers, lengths_of}
 use Rattle.walk.specs.declared.Summary.{Summary}
-use Rattle.walk.specs.declared.Walked as Declared
-use Rattle.walk.specs.declared.Walked.TheVariants as W
 
 -- the words stand in front
 abbrev pub Begins : List ℕ → List ℕ → Type 0
@@ -44,11 +44,11 @@ pub record Ended (w : Walk) (s : Summary) (b : Buffers) : Type 0 where
   pub groups : Begins (groups_of w.components) b.groups
 
 -- the code's answer goes with the definition's: a refusal with the same number and index, or a state whose words were written
-abbrev pub WalkEnds : Walked → Declared.Walked → Buffers → Type 0
-WalkEnds (finished w) (W.Finished s) b = Ended w s b
-WalkEnds (finished w) (W.Stopped number index) b = ⊥
-WalkEnds (stopped n i) (W.Finished s) b = ⊥
-WalkEnds (stopped n i) (W.Stopped number index) b = (n ≡ number) × (i ≡ index)
+abbrev pub WalkEnds : Walked → Result Summary Refusal → Buffers → Type 0
+WalkEnds (finished w) (Ok s) b = Ended w s b
+WalkEnds (finished w) (Err refusal) b = ⊥
+WalkEnds (stopped n i) (Ok s) b = ⊥
+WalkEnds (stopped n i) (Err refusal) b = (n ≡ number_of refusal.reason) × (i ≡ refusal.index)
 
 -- what refusals 2 to 10 leave to the walk
 pub record Walkable (initial : ℕ) (ws : List ℕ) (b : Buffers) : Type 0 where

@@ -1,33 +1,35 @@
-// The walk over the records. The state is a local of the walk's loop, and is moved by nothing but its own steps; the active
+// The walk over the records. The state is a local of the walk's function, and is changed by nothing but its own steps; the active
 // order stands beside it and is changed in place.
 #![tactic(auto)]
 
+ghost use Rattle.std.specs.Prelude.{◌≡◌, ◌+◌, ◌*◌, ◌<◌, ◌≤◌, ℕ, [], ◌∷◌, length, set};
 ghost use Rattle.records.specs.Record.{instructions_of};
 ghost use Rattle.definition.specs.Walk.{start, walk_from};
-ghost use Rattle.walk.specs.Walking.{Walkable, WalkEnds};
+ghost use Rattle.outputs.specs.Outputs.{buffers_of, SameOutputs};
+ghost use Rattle.outputs.specs.Buffers.{patch};
+ghost use Rattle.rows.specs.Steps.{kind_number};
+ghost use Rattle.turns.specs.Turns.{Settled, JoinedFits, rotation_answer, RotationDone, measurement_answer, MeasurementDone, PromotionFits, PromotionDone};
 ghost use Rattle.state.specs.Steps.{BeforeJoin, Joined, promoted, BeforeRemoval, Removed};
-ghost use Rattle.std.specs.Prelude.{◌≡◌, ◌<◌};
+ghost use Rattle.walk.specs.Walking.{Walkable, WalkEnds};
+ghost use Rattle.walk.specs.Looping.{Looping, Standing, TurnEnds, Joins, JoinMade, Leaves, Measured};
 
+use kernels::active::Angle;
+use outputs::Outputs;
 use outputs::buffers::{fill_ones, write_counts, write_members};
 use records::{Instruction, read};
+use refusals::{Reason, Refusal};
 use rows::{Step, StepKind, put};
 use state::{State, append, close_gap, first_order};
-use tally::Tally;
-use turns::{measure, open, promote, rotate};
+use tally::{Joining, Tally};
+use turns::{Pauli, Turn, measure, open, promote, rotate};
 
 // What a finished walk leaves beside the buffers: the sums, how many components were made, and how many words the groups
 // take.
-#[derive(Clone, Copy)]
+#[derive(Clone, Copy, Debug, PartialEq)]
 pub struct Summary {
     pub tally: Tally,
     pub count: usize,
     pub groups: usize,
-}
-
-#[derive(Clone, Copy)]
-pub enum Walked {
-    Finished(Summary),
-    Stopped { number: u64, index: u64 },
 }
 
 // Joins the sources in place. The state's steps take it and give it back by value; each stands in a function of its own, so that
@@ -55,163 +57,231 @@ fn remove_state(state: &mut State, pivot: usize)
     *state = state.remove(pivot);
 }
 
+// Makes the join that a record makes, or gives refusal 11, 12 or 13: its sources stand in the merge list from the offset on.
+fn make_join(
+    instruction: Instruction,
+    offset: usize,
+    state: &mut State,
+    merges: &mut [u64],
+) -> Result<Option<Joining>, Reason>
+    requires { Joins state.old instruction offset (length merges.old) }
+    ensures { JoinMade state.old state.new instruction offset result merges.old merges.new }
+{
+    let width = state.width as u64;
+    let made = open(
+        instruction,
+        width,
+        offset,
+        &state.component,
+        &state.size,
+        merges,
+    )?;
+    if let Some(join) = made {
+        let count = join.count;
+        if 1 < count {
+            let end = offset + count;
+            join_state(state, &merges[offset..end]);
+        }
+    }
+    Ok(made)
+}
+
+// Writes a record's step that has no row.
+fn put_kind(steps: &mut [u64], index: usize, kind: StepKind)
+    requires { 2 * index + 2 ≤ length steps.old }
+    ensures { steps.new ≡ patch (2 * index) (kind_number kind ∷ 0 ∷ []) steps.old }
+{
+    put(steps, index, Step { kind, payload: 0 });
+}
+
+// Makes a rotation behind its join, or gives refusal 14.
+fn rotation(
+    pauli: Pauli,
+    angle: Angle,
+    join: Joining,
+    turn: Turn,
+    place: &[u8; 512],
+    tally: &mut Tally,
+    out: &mut Outputs,
+) -> Result<(), Reason>
+    requires joined_fits { JoinedFits place.now pauli.x pauli.z turn.width turn.index join tally.old out.old.steps.now out.old.sizes.now }
+    requires row_room { 21 * tally.old.rotations + 21 ≤ length out.old.rotations.now }
+    ensures same { SameOutputs out.old out.new }
+    ensures kept { (out.new.merges.now ≡ out.old.merges.now) × (out.new.promotions.now ≡ out.old.promotions.now) × (out.new.measurements.now ≡ out.old.measurements.now) }
+    ensures settled { Settled (rotation_answer turn.limit place.now pauli.x pauli.z pauli.phase angle.value angle.sine angle.cosine turn.width join.size) result
+        (λ done. RotationDone turn.width turn.index join tally.old tally.new out.old.steps.now out.old.sizes.now out.old.rotations.now out.new.steps.now out.new.sizes.now out.new.rotations.now) }
+{
+    *tally = rotate(
+        pauli,
+        angle,
+        join,
+        turn,
+        *tally,
+        place,
+        out.steps,
+        out.sizes,
+        out.rotations,
+    )?;
+    Ok(())
+}
+
+// Makes a promotion.
+fn promotion(
+    turn: Turn,
+    order: &mut [u16; 512],
+    state: &mut State,
+    tally: &mut Tally,
+    out: &mut Outputs,
+)
+    requires fits { PromotionFits state.old.count turn.width turn.index tally.old out.old.steps.now out.old.sizes.now out.old.promotions.now }
+    requires room { (state.old.width < 512) × (state.old.count < 512) }
+    ensures same { SameOutputs out.old out.new }
+    ensures kept { (out.new.merges.now ≡ out.old.merges.now) × (out.new.rotations.now ≡ out.old.rotations.now) × (out.new.measurements.now ≡ out.old.measurements.now) }
+    ensures done { PromotionDone state.old.count turn.width turn.index tally.old tally.new out.old.steps.now out.old.sizes.now out.old.promotions.now out.new.steps.now out.new.sizes.now out.new.promotions.now }
+    ensures grown { (state.new ≡ promoted state.old) × (order.new ≡ set order.old state.old.width state.old.count) }
+{
+    let next = state.count;
+    *tally = promote(next, turn, *tally, out.steps, out.sizes, out.promotions);
+    let end = state.width;
+    append(order, end, next);
+    promote_state(state);
+}
+
+// Makes a measurement behind its join, or gives refusal 14 to 20.
+fn measurement(
+    pauli: Pauli,
+    pivot: u64,
+    join: Joining,
+    turn: Turn,
+    order: &mut [u16; 512],
+    state: &mut State,
+    tally: &mut Tally,
+    out: &mut Outputs,
+) -> Result<(), Reason>
+    requires joined_fits { JoinedFits state.old.place pauli.x pauli.z turn.width turn.index join tally.old out.old.steps.now out.old.sizes.now }
+    requires row_room { 19 * tally.old.measurements + 19 ≤ length out.old.measurements.now }
+    requires leaves { Leaves (measurement_answer turn.limit state.old.component state.old.place pauli.x pauli.z pauli.phase pivot turn.width join) state.old pivot }
+    ensures same { SameOutputs out.old out.new }
+    ensures kept { (out.new.merges.now ≡ out.old.merges.now) × (out.new.rotations.now ≡ out.old.rotations.now) × (out.new.promotions.now ≡ out.old.promotions.now) }
+    ensures settled { Settled (measurement_answer turn.limit state.old.component state.old.place pauli.x pauli.z pauli.phase pivot turn.width join) result
+        (λ done. Measured (MeasurementDone turn.width turn.index join tally.old tally.new out.old.steps.now out.old.sizes.now out.old.measurements.now out.new.steps.now out.new.sizes.now out.new.measurements.now) pivot order.old order.new state.old state.new) }
+{
+    *tally = measure(
+        pauli,
+        pivot,
+        join,
+        turn,
+        *tally,
+        &state.component,
+        &state.place,
+        out.steps,
+        out.sizes,
+        out.measurements,
+    )?;
+    let at = pivot as usize;
+    remove_state(state, at);
+    let last = state.width;
+    close_gap(order, at, last);
+    Ok(())
+}
+
+// One record: its join, and its rotation, promotion or measurement; or the reason why it is refused.
+fn turn(
+    limit: u64,
+    records: &[u64],
+    index: usize,
+    order: &mut [u16; 512],
+    state: &mut State,
+    tally: &mut Tally,
+    out: &mut Outputs,
+) -> Result<(), Reason>
+    requires { Standing limit records.now index order.old state.old tally.old (buffers_of out.old) }
+    ensures same { SameOutputs out.old out.new }
+    ensures step { (k : ℕ) → Looping limit k records.now index order.old state.old tally.old (buffers_of out.old)
+        → TurnEnds limit k records.now index result order.new state.new tally.new (buffers_of out.new) }
+{
+    let instruction = read(records, index);
+    let turn = Turn {
+        index,
+        width: state.width as u64,
+        limit,
+    };
+    let made = make_join(instruction, tally.merges, state, out.merges)?;
+    match instruction {
+        Instruction::Rotation {
+            width: _,
+            x,
+            z,
+            phase,
+            angle: value,
+            sine,
+            cosine,
+        } => {
+            if let Some(join) = made {
+                let pauli = Pauli { x, z, phase };
+                let angle = Angle {
+                    value,
+                    sine,
+                    cosine,
+                };
+                rotation(pauli, angle, join, turn, &state.place, tally, out)?;
+            } else {
+                *tally = tally.ignored();
+                put_kind(out.steps, index, StepKind::IgnoredGlobalPhase);
+            }
+        }
+        Instruction::Promotion => promotion(turn, order, state, tally, out),
+        Instruction::Measurement {
+            width: _,
+            x,
+            z,
+            phase,
+            pivot,
+        } => {
+            let pauli = Pauli { x, z, phase };
+            let join = made.unwrap();
+            measurement(pauli, pivot, join, turn, order, state, tally, out)?;
+        }
+        _ => put_kind(out.steps, index, StepKind::None),
+    }
+    Ok(())
+}
+
 // Walks over the records, and writes every output but the zeros behind the used words.
 pub fn walk(
     limit: u64,
     initial_k: usize,
     records: &[u64],
-    steps: &mut [u64],
-    merges: &mut [u64],
-    sizes: &mut [u64],
-    rotations: &mut [u64],
-    promotions: &mut [u64],
-    measurements: &mut [u64],
-    groups: &mut [u64],
-) -> Walked
-    requires { Walkable initial_k records.now (record { steps = steps.old; merges = merges.old; sizes = sizes.old; rotations = rotations.old; promotions = promotions.old; measurements = measurements.old; groups = groups.old }) }
-    ensures { WalkEnds (walk_from limit 0 (start initial_k) (instructions_of records.now)) result (record { steps = steps.new; merges = merges.new; sizes = sizes.new; rotations = rotations.new; promotions = promotions.new; measurements = measurements.new; groups = groups.new }) }
+    out: &mut Outputs,
+) -> Result<Summary, Refusal>
+    requires { Walkable initial_k records.now (buffers_of out.old) }
+    ensures same { SameOutputs out.old out.new }
+    ensures walked { WalkEnds (walk_from limit 0 (start initial_k) (instructions_of records.now)) result (buffers_of out.new) }
 {
     let mut order = first_order(initial_k);
     let mut state = State::start(initial_k);
     let mut tally = Tally::start(initial_k as u64);
-    fill_ones(sizes, initial_k);
-    let n = records.len() / 8;
-    let mut i: usize = 0;
-    while i < n {
-        let index = i;
-        i += 1;
-        let instruction = read(records, index);
-        let width = state.width as u64;
-        let offset = tally.merges;
-        let act = open(
-            instruction,
-            width,
-            offset,
-            &state.component,
-            &state.size,
-            merges,
-        );
-        let number = act.number;
-        if number != 0 {
-            return Walked::Stopped {
-                number,
-                index: index as u64,
-            };
-        }
-        let join = act.join;
-        let count = join.count;
-        if 1 < count {
-            let end = offset + count;
-            join_state(&mut state, &merges[offset..end]);
-        }
-        match instruction {
-            Instruction::Rotation {
-                width: _,
-                x,
-                z,
-                phase,
-                angle,
-                sine,
-                cosine,
-            } => {
-                if count == 0 {
-                    tally = tally.ignored();
-                    let step = Step {
-                        kind: StepKind::IgnoredGlobalPhase,
-                        payload: 0,
-                    };
-                    put(steps, index, step);
-                } else {
-                    let after = rotate(
-                        x,
-                        z,
-                        phase,
-                        angle,
-                        sine,
-                        cosine,
-                        join,
-                        width,
-                        limit,
-                        index,
-                        tally,
-                        &state.place,
-                        steps,
-                        sizes,
-                        rotations,
-                    );
-                    let number = after.number;
-                    if number != 0 {
-                        return Walked::Stopped {
-                            number,
-                            index: index as u64,
-                        };
-                    }
-                    let next = after.tally;
-                    tally = next;
-                }
-            }
-            Instruction::Promotion => {
-                let next = state.count;
-                tally = promote(next, width, index, tally, steps, sizes, promotions);
-                let end = state.width;
-                append(&mut order, end, next);
-                promote_state(&mut state);
-            }
-            Instruction::Measurement {
-                width: _,
-                x,
-                z,
-                phase,
-                pivot,
-            } => {
-                let after = measure(
-                    x,
-                    z,
-                    phase,
-                    pivot,
-                    join,
-                    width,
-                    limit,
-                    index,
-                    tally,
-                    &state.component,
-                    &state.place,
-                    steps,
-                    sizes,
-                    measurements,
-                );
-                let number = after.number;
-                if number != 0 {
-                    return Walked::Stopped {
-                        number,
-                        index: index as u64,
-                    };
-                }
-                let next = after.tally;
-                tally = next;
-                let at = pivot as usize;
-                remove_state(&mut state, at);
-                let last = state.width;
-                close_gap(&mut order, at, last);
-            }
-            _ => {
-                let step = Step {
-                    kind: StepKind::None,
-                    payload: 0,
-                };
-                put(steps, index, step);
-            }
+    fill_ones(out.sizes, initial_k);
+    for index in 0..records.len() / 8 {
+        if let Err(reason) = turn(
+            limit, records, index, &mut order, &mut state, &mut tally, out,
+        ) {
+            return Err(reason.at(index));
         }
     }
     let count = state.count;
-    let width = state.width;
-    let starts = write_counts(&state.size, count, groups);
-    let used = starts.used;
-    let start = starts.start;
-    write_members(start, &order, &state.component, &state.place, width, groups);
-    Walked::Finished(Summary {
+    let starts = write_counts(&state.size, count, out.groups);
+    write_members(
+        starts.start,
+        &order,
+        &state.component,
+        &state.place,
+        state.width,
+        out.groups,
+    );
+    Ok(Summary {
         tally,
         count,
-        groups: used,
+        groups: starts.used,
     })
 }

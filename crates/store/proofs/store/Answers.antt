@@ -41,8 +41,8 @@ returns-then-file-words c =
     let answers : Answers c.args.head c.args.records.now before_of between-of (P.Plan plan-of) = subst (λ (r : Planned). Answers c.args.head c.args.records.now before_of between-of r) c.in-Plan.is c.build_active_component_plan-planned.ensures in
     let short = c.if-file-words.true in
     let words = c.word_count-words.ensures in
-    stores_short c.args.head c.args.records.now before_of between-of plan-of answers (buffers c.clear_all.new.steps c.clear_all.new.merges c.clear_all.new.sizes c.clear_all.new.rotations c.clear_all.new.promotions c.clear_all.new.measurements c.clear_all.new.groups) c.args.file.now c.clear_bytes-then-file-words.new.file
-    (omega (arith, short, words)) same c.clear_all.ensures c.clear_bytes-then-file-words.ensures
+    stores_short c.args.head c.args.records.now before_of between-of plan-of answers (buffers c.clear_outputs.new.steps c.clear_outputs.new.merges c.clear_outputs.new.sizes c.clear_outputs.new.rotations c.clear_outputs.new.promotions c.clear_outputs.new.measurements c.clear_outputs.new.groups) c.args.file.now c.clear_bytes-then-file-words.new.file
+    (omega (arith, short, words)) same c.clear_outputs.ensures c.clear_bytes-then-file-words.ensures
 
 pub slice_bounds-write_file-end : goal.slice_bounds-write_file-end
 slice_bounds-write_file-end c =

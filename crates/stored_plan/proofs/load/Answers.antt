@@ -1,95 +1,86 @@
--- `load` meets its contract: where the number is not 0 reading is refused with it, and all six outputs are cleared; else every section lies in front of the
--- trailer and fits its output, and is read into it.
-use mathlib.Core.Path.{sym, ap, ap₂, ◌∙◌, subst}
+-- `load` meets its contract: where the file is refused all six outputs are cleared; else every section lies in front of the trailer and fits its output, and is
+-- read into it.
+use mathlib.Core.Path.{◌≡◌, sym, ap, ap₂, ◌∙◌, subst}
+use mathlib.Core.List.{List}
 use native.Mathlib.Omega.{arith}
-use Rattle.stored_plan.specs.Reading.{Read}
-use Rattle.stored_plan.specs.Loading.{Outputs, lengths_of, given, outcome_in, Restored}
-use Rattle.stored_plan.proofs.Accepting.{trailer_fits, counts_are, scalars_are, accepted, steps_fit, merges_fit, sizes_fit, rotations_fit, promotions_fit, measurements_fit, scalars_fit, refused_is}
+use Rattle.std.specs.Prelude.{ℕ, Result, Ok}
+use Rattle.refusals.specs.declared.Reason.{Reason}
+use Rattle.refusals.specs.Answer.{number_or_0}
+use Rattle.refusals.specs.Numbers as Reasons
+use Rattle.refusals.proofs.Laws.{positive}
+use Rattle.outputs.specs.declared.WordCounts.{WordCounts}
+use Rattle.stored_plan.specs.Reading.{Read, read_file}
+use Rattle.stored_plan.specs.Loading.{Outputs, lengths_of, outputs_of, number_of, given, outcome_in, Restored}
+use Rattle.stored_plan.proofs.Accepting.{Accepted, counts_are, scalars_are, accepted, steps_fit, merges_fit, sizes_fit, rotations_fit, promotions_fit, measurements_fit, scalars_fit, refused_is}
 use Rattle.stored_plan.proofs.load.Goals as goal
 
-pub returns-then-number-ne0 : goal.returns-then-number-ne0
-returns-then-number-ne0 c =
-    let before : Outputs = (record { steps = c.args.steps.now; merges = c.args.merges.now; sizes = c.args.sizes.now; rotations = c.args.rotations.now; promotions = c.args.promotions.now; measurements = c.args.measurements.now }) in
-    let lent = lengths_of before in
-    let refusal = refused_is c.args.file.now lent c.load_number-number.result c.load_number-number.ensures c.if-number-ne0.true in
-    let after : Outputs = (record { steps = c.clear_from.new.words; merges = c.clear_from-then-number-ne0.new.words; sizes = c.clear_from-then-number-ne0-2.new.words; rotations = c.clear_from-then-number-ne0-3.new.words; promotions = c.clear_from-then-number-ne0-4.new.words; measurements = c.clear_from-then-number-ne0-5.new.words }) in record {
+-- a file that the check lets through is accepted
+let_through : (file : List ℕ) (o : Outputs) {r : Result Unit Reason} {done : Unit} {lent : WordCounts} → r ≡ Ok done → number_or_0 r ≡ number_of (read_file file lent) → lent ≡ lengths_of o
+    → Accepted file (lengths_of o)
+let_through file o is told same =
+    accepted file (lengths_of o) (sym (ap number_or_0 (sym is) ∙ told ∙ ap (λ (l : WordCounts). number_of (read_file file l)) same))
+
+pub returns-in-Err-clause-loads : goal.returns-in-Err-clause-loads
+returns-in-Err-clause-loads c =
+    let before : Outputs = outputs_of c.args.out.now in
+    let after : Outputs = outputs_of c.clear_all.new.out in
+    let zeros = c.clear_all.ensures.cleared in
+    let number = Reasons.number_of c.in-Err.reason in
+    let told : number ≡ number_of (read_file c.args.file.now (lengths_of before)) =
+    ap number_or_0 (sym c.in-Err.is) ∙ c.check_file.ensures ∙ ap (λ (l : WordCounts). number_of (read_file c.args.file.now l)) c.lengths-lent.ensures in
+    let refusal = refused_is c.args.file.now (lengths_of before) number told (λ e. absurd (omega (arith, positive c.in-Err.reason, e))) in record {
       answer = sym (ap outcome_in refusal);
       held =
           subst (λ (r : Read). Restored r before after) (sym refusal) (record {
-            steps = c.clear_from.ensures;
-            merges = c.clear_from-then-number-ne0.ensures;
-            sizes = c.clear_from-then-number-ne0-2.ensures;
-            rotations = c.clear_from-then-number-ne0-3.ensures;
-            promotions = c.clear_from-then-number-ne0-4.ensures;
-            measurements = c.clear_from-then-number-ne0-5.ensures;
+            steps = zeros.steps;
+            merges = zeros.merges;
+            sizes = zeros.sizes;
+            rotations = zeros.rotations;
+            promotions = zeros.promotions;
+            measurements = zeros.measurements;
           });
     }
 
-pub overflow_sub-trailer : goal.overflow_sub-trailer
-overflow_sub-trailer c =
-    let before : Outputs = (record { steps = c.args.steps.now; merges = c.args.merges.now; sizes = c.args.sizes.now; rotations = c.args.rotations.now; promotions = c.args.promotions.now; measurements = c.args.measurements.now }) in
-    let ok = accepted c.args.file.now (lengths_of before) (sym c.load_number-number.ensures ∙ c.if-number-ne0.false) in
-    let long = ok.is_whole.long in omega (arith, long)
-
 pub get_section-requires : goal.get_section-requires
 get_section-requires c =
-    let before : Outputs = (record { steps = c.args.steps.now; merges = c.args.merges.now; sizes = c.args.sizes.now; rotations = c.args.rotations.now; promotions = c.args.promotions.now; measurements = c.args.measurements.now }) in
-    let ok = accepted c.args.file.now (lengths_of before) (sym c.load_number-number.ensures ∙ c.if-number-ne0.false) in
-    steps_fit c.args.file.now (lengths_of before) ok
+    let ok = let_through c.args.file.now (outputs_of c.args.out.now) c.in_default.is c.check_file.ensures c.lengths-lent.ensures in
+    steps_fit c.args.file.now (lengths_of (outputs_of c.args.out.now)) ok
 
 pub get_section-requires-2 : goal.get_section-requires-2
 get_section-requires-2 c =
-    let before : Outputs = (record { steps = c.args.steps.now; merges = c.args.merges.now; sizes = c.args.sizes.now; rotations = c.args.rotations.now; promotions = c.args.promotions.now; measurements = c.args.measurements.now }) in
-    let ok = accepted c.args.file.now (lengths_of before) (sym c.load_number-number.ensures ∙ c.if-number-ne0.false) in
-    merges_fit c.args.file.now (lengths_of before) ok
+    let ok = let_through c.args.file.now (outputs_of c.args.out.now) c.in_default.is c.check_file.ensures c.lengths-lent.ensures in
+    merges_fit c.args.file.now (lengths_of (outputs_of c.args.out.now)) ok
 
 pub get_section-requires-3 : goal.get_section-requires-3
 get_section-requires-3 c =
-    let before : Outputs = (record { steps = c.args.steps.now; merges = c.args.merges.now; sizes = c.args.sizes.now; rotations = c.args.rotations.now; promotions = c.args.promotions.now; measurements = c.args.measurements.now }) in
-    let ok = accepted c.args.file.now (lengths_of before) (sym c.load_number-number.ensures ∙ c.if-number-ne0.false) in
-    sizes_fit c.args.file.now (lengths_of before) ok
+    let ok = let_through c.args.file.now (outputs_of c.args.out.now) c.in_default.is c.check_file.ensures c.lengths-lent.ensures in
+    sizes_fit c.args.file.now (lengths_of (outputs_of c.args.out.now)) ok
 
 pub get_section-requires-4 : goal.get_section-requires-4
 get_section-requires-4 c =
-    let before : Outputs = (record { steps = c.args.steps.now; merges = c.args.merges.now; sizes = c.args.sizes.now; rotations = c.args.rotations.now; promotions = c.args.promotions.now; measurements = c.args.measurements.now }) in
-    let ok = accepted c.args.file.now (lengths_of before) (sym c.load_number-number.ensures ∙ c.if-number-ne0.false) in
-    rotations_fit c.args.file.now (lengths_of before) ok
+    let ok = let_through c.args.file.now (outputs_of c.args.out.now) c.in_default.is c.check_file.ensures c.lengths-lent.ensures in
+    rotations_fit c.args.file.now (lengths_of (outputs_of c.args.out.now)) ok
 
 pub get_section-requires-5 : goal.get_section-requires-5
 get_section-requires-5 c =
-    let before : Outputs = (record { steps = c.args.steps.now; merges = c.args.merges.now; sizes = c.args.sizes.now; rotations = c.args.rotations.now; promotions = c.args.promotions.now; measurements = c.args.measurements.now }) in
-    let ok = accepted c.args.file.now (lengths_of before) (sym c.load_number-number.ensures ∙ c.if-number-ne0.false) in
-    promotions_fit c.args.file.now (lengths_of before) ok
+    let ok = let_through c.args.file.now (outputs_of c.args.out.now) c.in_default.is c.check_file.ensures c.lengths-lent.ensures in
+    promotions_fit c.args.file.now (lengths_of (outputs_of c.args.out.now)) ok
 
 pub get_section-requires-6 : goal.get_section-requires-6
 get_section-requires-6 c =
-    let before : Outputs = (record { steps = c.args.steps.now; merges = c.args.merges.now; sizes = c.args.sizes.now; rotations = c.args.rotations.now; promotions = c.args.promotions.now; measurements = c.args.measurements.now }) in
-    let ok = accepted c.args.file.now (lengths_of before) (sym c.load_number-number.ensures ∙ c.if-number-ne0.false) in
-    measurements_fit c.args.file.now (lengths_of before) ok
+    let ok = let_through c.args.file.now (outputs_of c.args.out.now) c.in_default.is c.check_file.ensures c.lengths-lent.ensures in
+    measurements_fit c.args.file.now (lengths_of (outputs_of c.args.out.now)) ok
 
 pub overflow_sub-trailer-2 : goal.overflow_sub-trailer-2
 overflow_sub-trailer-2 c =
-    let before : Outputs = (record { steps = c.args.steps.now; merges = c.args.merges.now; sizes = c.args.sizes.now; rotations = c.args.rotations.now; promotions = c.args.promotions.now; measurements = c.args.measurements.now }) in
-    let ok = accepted c.args.file.now (lengths_of before) (sym c.load_number-number.ensures ∙ c.if-number-ne0.false) in
-    let room = scalars_fit c.args.file.now (lengths_of before) ok in omega (arith, room)
+    let ok = let_through c.args.file.now (outputs_of c.args.out.now) c.in_default.is c.check_file.ensures c.lengths-lent.ensures in
+    let room = scalars_fit c.args.file.now (lengths_of (outputs_of c.args.out.now)) ok in omega (arith, room)
 
-pub scalars_at-requires : goal.scalars_at-requires
-scalars_at-requires c =
-    let before : Outputs = (record { steps = c.args.steps.now; merges = c.args.merges.now; sizes = c.args.sizes.now; rotations = c.args.rotations.now; promotions = c.args.promotions.now; measurements = c.args.measurements.now }) in
-    let ok = accepted c.args.file.now (lengths_of before) (sym c.load_number-number.ensures ∙ c.if-number-ne0.false) in
-    let room = scalars_fit c.args.file.now (lengths_of before) ok in let end = trailer_fits c.args.file.now ok.is_whole in omega (arith, room, end)
-
-pub counts_at-requires : goal.counts_at-requires
-counts_at-requires c =
-    let before : Outputs = (record { steps = c.args.steps.now; merges = c.args.merges.now; sizes = c.args.sizes.now; rotations = c.args.rotations.now; promotions = c.args.promotions.now; measurements = c.args.measurements.now }) in
-    let ok = accepted c.args.file.now (lengths_of before) (sym c.load_number-number.ensures ∙ c.if-number-ne0.false) in
-    let end = trailer_fits c.args.file.now ok.is_whole in omega (arith, end)
-
-pub returns : goal.returns
-returns c =
-    let before : Outputs = (record { steps = c.args.steps.now; merges = c.args.merges.now; sizes = c.args.sizes.now; rotations = c.args.rotations.now; promotions = c.args.promotions.now; measurements = c.args.measurements.now }) in
-    let ok = accepted c.args.file.now (lengths_of before) (sym c.load_number-number.ensures ∙ c.if-number-ne0.false) in
+pub returns-clause-loads : goal.returns-clause-loads
+returns-clause-loads c =
+    let ok = let_through c.args.file.now (outputs_of c.args.out.now) c.in_default.is c.check_file.ensures c.lengths-lent.ensures in
     let file = c.args.file.now in
+    let before : Outputs = outputs_of c.args.out.now in
     let after : Outputs = (record { steps = c.get_section.new.output; merges = c.get_section-2.new.output; sizes = c.get_section-3.new.output; rotations = c.get_section-4.new.output; promotions = c.get_section-5.new.output; measurements = c.get_section-6.new.output }) in record {
       answer =
           ap₂ given (c.scalars_at.ensures ∙ sym (scalars_are file ok.is_placed ok.eight)) (c.counts_at.ensures ∙ sym (counts_are file))

@@ -1,7 +1,6 @@
 -- `sections_touch` meets its contract. The loop's invariant: the pairs still to be read decide, from the place where those read so far end; that place is at
 -- most the trailer's. The measure is the number of pairs left.
-use Rattle.std.proofs.Common.{rules}
-use mathlib.Core.Path.{◌≡◌, refl, sym, ap, ◌∙◌}
+use mathlib.Core.Path.{◌≡◌, sym, ap, ◌∙◌}
 use mathlib.Core.List.{map}
 use Prim.Native.Nat.{ℕ, ◌+◌, ◌-◌, ◌*◌}
 use native.Mathlib.Nat.{add_assoc}

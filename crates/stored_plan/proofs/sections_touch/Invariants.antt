@@ -9,6 +9,3 @@ use Rattle.stored_plan.proofs.sections_touch.Given as goal
 abbrev pub invariant-loop-s : goal.invariant-loop-s
 invariant-loop-s l = (l.s ≤ 7) × (l.at ≤ l.trailer)
     × (touch 0 l.trailer (map (λ i. word_at l.file (l.trailer + i)) (numbers_from 0 14)) ≡ touch l.at l.trailer (map (λ i. word_at l.file (l.trailer + i)) (numbers_from (2 * l.s) (14 - 2 * l.s))))
-
-abbrev pub decreases-loop-s : goal.decreases-loop-s
-decreases-loop-s l = 7 - l.s

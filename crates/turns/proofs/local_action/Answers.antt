@@ -17,5 +17,5 @@ returns c =
     let x = c.local_mask-local_x.ensures ∙ ap (λ (m : ℕ). local_of m a.place.now) c.below_width.ensures in
     let z = c.local_mask-local_z.ensures ∙ ap (λ (m : ℕ). local_of m a.place.now) c.below_width-2.ensures in
     c.new.ensures
-    ∙ ap (λ (m : ℕ). action a.size m c.local_mask-local_z.result a.phase) x
-    ∙ ap (λ (m : ℕ). action a.size (local_of (a.x % 2 ^ a.width) a.place.now) m a.phase) z
+    ∙ ap (λ (m : ℕ). action a.size m c.local_mask-local_z.result a.pauli.phase) x
+    ∙ ap (λ (m : ℕ). action a.size (local_of (a.pauli.x % 2 ^ a.width) a.place.now) m a.pauli.phase) z

@@ -1,9 +1,11 @@
 -- `turns::open` meets its contract: each arm makes the tests of its kind in their order, and where all are passed the sources are gathered.
+use Rattle.std.specs.Prelude.{None, Ok, Err}
 use mathlib.Core.Path.{◌≡◌, refl}
 use mathlib.Core.List.{List, []}
 use Prim.Native.Nat.{ℕ}
 use lib.ListN.{length}
 use lib.Ieee.{Float}
+use Rattle.refusals.specs.declared.Reason.TheVariants.{RotationWidth, MeasurementWidth, NothingActive}
 use Rattle.records.specs.declared.Instruction.{Instruction}
 use Rattle.records.specs.declared.Instruction.TheVariants.{Rotation, Promotion, RecordMeasurement, RecordDetector, Measurement, Expectation, DormantBranch}
 use Rattle.turns.specs.Turns.{sources_at, GatherFits, number_before, sources_before}
@@ -26,13 +28,13 @@ others width sources DormantBranch r m = (refl, refl)
 pub returns-then-w-width : goal.returns-then-w-width
 returns-then-w-width c =
     let a = c.args in
-    opened_none a.width a.offset a.component.now a.size.now a.merges.now a.instruction 11 c.without_join.result c.without_join.ensures
+    opened_none a.width a.offset a.component.now a.size.now a.merges.now a.instruction (Err RotationWidth) refl
     (rotation_refused a.width (sources_at a.component.now a.size.now a.width) c.in-Rotation.is c.if-w-width.true)
 
 pub returns-then-width-eq0 : goal.returns-then-width-eq0
 returns-then-width-eq0 c =
     let a = c.args in
-    opened_none a.width a.offset a.component.now a.size.now a.merges.now a.instruction 0 c.without_join-then-width-eq0.result c.without_join-then-width-eq0.ensures
+    opened_none a.width a.offset a.component.now a.size.now a.merges.now a.instruction (Ok None) refl
     (rotation_empty a.width (sources_at a.component.now a.size.now a.width) c.in-Rotation.is c.if-w-width.false c.if-width-eq0.true)
 
 pub gather-join-requires : goal.gather-join-requires
@@ -43,13 +45,13 @@ gather-join-requires c =
 pub returns-then-w-width-2 : goal.returns-then-w-width-2
 returns-then-w-width-2 c =
     let a = c.args in
-    opened_none a.width a.offset a.component.now a.size.now a.merges.now a.instruction 12 c.without_join-then-w-width-2.result c.without_join-then-w-width-2.ensures
+    opened_none a.width a.offset a.component.now a.size.now a.merges.now a.instruction (Err MeasurementWidth) refl
     (measurement_refused a.width (sources_at a.component.now a.size.now a.width) c.in-Measurement.is c.if-w-width-2.true)
 
 pub returns-then-width-eq0-2 : goal.returns-then-width-eq0-2
 returns-then-width-eq0-2 c =
     let a = c.args in
-    opened_none a.width a.offset a.component.now a.size.now a.merges.now a.instruction 13 c.without_join-then-width-eq0-2.result c.without_join-then-width-eq0-2.ensures
+    opened_none a.width a.offset a.component.now a.size.now a.merges.now a.instruction (Err NothingActive) refl
     (measurement_empty a.width (sources_at a.component.now a.size.now a.width) c.in-Measurement.is c.if-w-width-2.false c.if-width-eq0-2.true)
 
 pub gather-join-requires-in-Measurement : goal.gather-join-requires-in-Measurement
@@ -72,5 +74,5 @@ returns-else-width-eq0-2 c =
 pub returns-in_default : goal.returns-in_default
 returns-in_default c =
     let a = c.args in
-    opened_none a.width a.offset a.component.now a.size.now a.merges.now a.instruction 0 c.without_join-in_default.result c.without_join-in_default.ensures
+    opened_none a.width a.offset a.component.now a.size.now a.merges.now a.instruction (Ok None) refl
     (others a.width (sources_at a.component.now a.size.now a.width) a.instruction c.in_default.not-Rotation c.in_default.not-Measurement)
