@@ -7,8 +7,6 @@ use Rattle.outputs.specs.declared.WordCounts.{WordCounts}
 use Rattle.refusals.specs.Numbers.{number_of}
 use Rattle.refusals.specs.declared.Refusal.{Refusal}
 use Rattle.answer.specs.declared.ActiveComponentPlan.{ActiveComponentPlan}
-use Rattle.answer.specs.declared.Planned.{Planned}
-use Rattle.answer.specs.declared.Planned.TheVariants as P
 
 -- "The result's eight scalar fields, in order", 02's whole works (CR 1) and how many words of the first six outputs are used (CR 2), or "its number and record
 -- index"
@@ -17,16 +15,11 @@ pub data Outcome : Type 0 where
   turned_away : (number index : ℕ) → Outcome
 
 -- of the code's answer
-abbrev pub outcome_of : Planned → Outcome
-outcome_of (P.Plan p) =
+abbrev pub outcome_of : Answered ActiveComponentPlan Refusal → Outcome
+outcome_of (Ok p) =
     accepted p.selected p.initial_components p.component_count p.estimated_dense_work p.estimated_component_work
     p.dense_peak_dimension p.component_peak_live_dimension p.component_allocated_dimension (works_of p.whole_works) p.used
-outcome_of (P.Refused number index) = turned_away number index
-
--- of an answer that its parts give
-abbrev pub outcome_for : Answered ActiveComponentPlan Refusal → Outcome
-outcome_for (Ok p) = outcome_of (P.Plan p)
-outcome_for (Err refusal) = turned_away (number_of refusal.reason) refusal.index
+outcome_of (Err refusal) = turned_away (number_of refusal.reason) refusal.index
 
 -- how many words of the first six outputs a plan uses
 abbrev pub used_in : Plan → WordCounts

@@ -1,8 +1,8 @@
-// The planner's answer: the scalar fields of a plan with its whole works and the words it uses, or a refusal; and the two ways
-// a plan comes about, from a finished walk and with no record read.
+// The planner's answer where it refuses nothing: the scalar fields of a plan with its whole works and the words it uses; and the
+// two ways a plan comes about, from a finished walk and with no record read.
 #![tactic(auto)]
 
-ghost use Rattle.std.specs.Prelude.{◌≡◌, false, pos, ◌*◌};
+ghost use Rattle.std.specs.Prelude.{◌≡◌, false, pos, ◌*◌, Ok};
 ghost use Rattle.std.specs.Float.{fin};
 ghost use Rattle.definition.specs.WholeWorks.{whole_works_of};
 ghost use Rattle.definition.specs.Plan.{chosen};
@@ -15,7 +15,7 @@ use tally::WholeWorks;
 use walk::Summary;
 
 // The scalar fields of a plan, its works as whole numbers, and how many words of the first six outputs it uses.
-#[derive(Clone, Copy)]
+#[derive(Clone, Copy, Debug, PartialEq)]
 pub struct ActiveComponentPlan {
     pub selected: bool,
     pub initial_components: u64,
@@ -27,13 +27,6 @@ pub struct ActiveComponentPlan {
     pub component_allocated_dimension: u64,
     pub whole_works: WholeWorks,
     pub used: WordCounts,
-}
-
-// The answer: a plan's scalar fields, or the first refusal's number and record index.
-#[derive(Clone, Copy)]
-pub enum Planned {
-    Plan(ActiveComponentPlan),
-    Refused { number: u64, index: u64 },
 }
 
 // The scalar fields of a plan that reads no record.
@@ -74,7 +67,7 @@ pub fn plan_of(
     allocated: u64,
 ) -> ActiveComponentPlan
     requires { UsedFit done n }
-    ensures { outcome_of (Planned.Plan result)
+    ensures { outcome_of (Ok result)
         ≡ accepted (chosen done.tally.quantum done.tally.dense done.tally.work allocated dense_peak) initial_k done.count done.tally.dense done.tally.work dense_peak done.tally.peak allocated
         (whole_works_of (record { dense = done.tally.whole_dense; component = done.tally.whole_work; widest = done.tally.widest }))
         (record { steps = 2 * n; merges = done.tally.merges; sizes = done.count; rotations = 21 * done.tally.rotations; promotions = done.tally.promotions; measurements = 19 * done.tally.measurements }) }

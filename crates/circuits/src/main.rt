@@ -1,9 +1,11 @@
 // Plans the reference circuits of document 01, whose ceiling is 62, and prints the scalar fields of each plan, or its refusal.
 #![tactic(auto)]
 
-use answer::{ActiveComponentPlan, Planned};
+use answer::ActiveComponentPlan;
 use component_plan::build_active_component_plan;
+use outputs::StoredOutputs;
 use records::Head;
+use refusals::Refusal;
 use std::num::saturating_f64_to_u64;
 use std::{fmt, io};
 
@@ -14,6 +16,7 @@ const ONE: u64 = 0x3ff0_0000_0000_0000;
 const CEILING: u64 = 62;
 
 // A circuit of at most two records.
+#[derive(Clone, Copy, Debug, PartialEq, Eq)]
 struct Circuit {
     name: &'static str,
     initial_k: u64,
@@ -111,13 +114,13 @@ static CIRCUITS: [Circuit; 12] = [
 ];
 
 // The line of an answer: the eight scalar fields, in order, or the refusal. A work is a whole number in every circuit here.
-#[derive(Clone, Copy)]
-struct Line(Planned);
+#[derive(Clone, Copy, Debug, PartialEq)]
+struct Line(Result<ActiveComponentPlan, Refusal>);
 
 impl fmt::Display for Line {
     fn fmt<W: fmt::Write>(&self, f: &mut fmt::Formatter<W>) -> fmt::Result {
         match self.0 {
-            Planned::Plan(plan) => write!(
+            Ok(plan) => write!(
                 f,
                 "{}, components {} to {}, works {} and {}, dense peak {}, peak {}, allocated {}",
                 choice(plan),
@@ -129,9 +132,7 @@ impl fmt::Display for Line {
                 plan.component_peak_live_dimension,
                 plan.component_allocated_dimension
             ),
-            Planned::Refused { number, index } => {
-                write!(f, "refused by {number} at record {index}")
-            }
+            Err(refusal) => write!(f, "{refusal}"),
         }
     }
 }
@@ -146,24 +147,22 @@ fn choice(plan: ActiveComponentPlan) -> &'static str {
 }
 
 // Plans one circuit.
-fn plan(circuit: &Circuit) -> Planned {
+fn plan(circuit: &Circuit) -> Result<ActiveComponentPlan, Refusal> {
     let head = Head {
         initial_k: circuit.initial_k,
         max_k: circuit.max_k,
         nexpvals: circuit.nexpvals,
         ceiling: CEILING,
     };
-    build_active_component_plan(
-        head,
-        circuit.records,
-        &mut [7; 4],
-        &mut [7; 514],
-        &mut [7; 512],
-        &mut [7; 42],
-        &mut [7; 2],
-        &mut [7; 38],
-        &mut [7; 1024],
-    )
+    let mut out = StoredOutputs {
+        steps: &mut [7; 4],
+        merges: &mut [7; 514],
+        sizes: &mut [7; 512],
+        rotations: &mut [7; 42],
+        promotions: &mut [7; 2],
+        measurements: &mut [7; 38],
+    };
+    build_active_component_plan(head, circuit.records, &mut out, &mut [7; 1024])
 }
 
 fn main(rt: HostRuntime) -> io::Result<()> {

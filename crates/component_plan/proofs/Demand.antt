@@ -1,5 +1,6 @@
 -- Demand 3, the sources of each join, and the laws of the whole works and of the ceiling, of what a call leaves: its contract says that the answer's fields are those of the definition's plan and that each buffer holds that plan's words and
 -- zeros behind them, and the claims that hold of a plan hold of its words followed by zeros.
+use Rattle.std.specs.Prelude.{Result as Answered, Ok}
 use Prim.Native.Nat.{ℕ, ◌/◌, ◌≤◌, ◌<◌}
 use native.Mathlib.Omega.{arith}
 use mathlib.Core.Path.{◌≡◌, refl, sym, ap, ◌∙◌, subst, subst₂}
@@ -23,15 +24,14 @@ use Rattle.tally.specs.Tally.{works_of}
 use Rattle.outputs.specs.declared.WordCounts.{WordCounts}
 use Rattle.outputs.specs.Outputs.{Buffers, lengths_of}
 use Rattle.answer.specs.declared.ActiveComponentPlan.{ActiveComponentPlan}
-use Rattle.answer.specs.declared.Planned.{Planned}
-use Rattle.answer.specs.declared.Planned.TheVariants as P
+use Rattle.refusals.specs.declared.Refusal.{Refusal}
 use Rattle.lent.specs.Lent.{Held}
 use Rattle.answer.specs.Outcome.{used_in, outcome_of, outcome_in}
 use Rattle.component_plan.specs.Answer.{Answers}
 use Rattle.component_plan.specs.Demand.{plan_in}
 
 -- an answer that is a plan is the definition's plan: its fields, and its words followed by zeros
-pub planned_pads : (result : Result) (before after : Buffers) (r : ActiveComponentPlan) → outcome_of (P.Plan r) ≡ outcome_in result → Held result before after
+pub planned_pads : (result : Result) (before after : Buffers) (r : ActiveComponentPlan) → outcome_of (Ok r) ≡ outcome_in result → Held result before after
     → (p : Plan) × (result ≡ planned p) × Pads p (plan_in r after)
 planned_pads (planned p) before after r e held =
     let initial : r.initial_components ≡ p.initial_components = cc in
@@ -57,7 +57,7 @@ planned_pads (refused_at number index) before after r e held = let z : ◌≡◌
 
 -- Demand 3 of the answer and the buffers that a call leaves
 pub call_connected : (h : Head) (ws : List ℕ) (before after : Buffers) (r : ActiveComponentPlan)
-    → Answers h ws before after (P.Plan r) → 8 ≤ h.max_k → h.nexpvals ≡ 0
+    → Answers h ws before after (Ok r) → 8 ≤ h.max_k → h.nexpvals ≡ 0
     → (m : ℕ) → m ≤ length (instructions_of ws) → Connected h.initial_k (instructions_of ws) (plan_in r after) m
 call_connected h ws before after r a wide none m within =
     let found = planned_pads (plan_of h ws (lengths_of before)) before after r a.answer a.held in
@@ -67,12 +67,12 @@ call_connected h ws before after r a wide none m within =
     (connected h ws (lengths_of before) p found.1 wide none m within)
 
 -- an answer that is a plan counts the definition's words
-planned_used : (result : Result) (r : ActiveComponentPlan) → outcome_of (P.Plan r) ≡ outcome_in result → (p : Plan) → result ≡ planned p → used_in p ≡ r.used
-planned_used result r e p same = let given : outcome_of (P.Plan r) ≡ outcome_in (planned p) = e ∙ ap outcome_in same in cc
+planned_used : (result : Result) (r : ActiveComponentPlan) → outcome_of (Ok r) ≡ outcome_in result → (p : Plan) → result ≡ planned p → used_in p ≡ r.used
+planned_used result r e p same = let given : outcome_of (Ok r) ≡ outcome_in (planned p) = e ∙ ap outcome_in same in cc
 
 -- 02, CR 3, of the answer and the buffers that a call leaves: each row's part of the merge list, by the numbers of used words
 pub call_sources : (h : Head) (ws : List ℕ) (before after : Buffers) (r : ActiveComponentPlan)
-    → Answers h ws before after (P.Plan r) → 8 ≤ h.max_k → h.nexpvals ≡ 0
+    → Answers h ws before after (Ok r) → 8 ≤ h.max_k → h.nexpvals ≡ 0
     → SourcesListed h.initial_k (instructions_of ws) (plan_in r after) (r.used.rotations / 21) (r.used.measurements / 19)
 call_sources h ws before after r a wide none =
     let result = plan_of h ws (lengths_of before) in
@@ -83,7 +83,7 @@ call_sources h ws before after r a wide none =
     (listed_padded h ws (lengths_of before) p (plan_in r after) (accepted h ws (lengths_of before) p (read_head h wide none) found.1) found.2)
 
 -- an answer that is a plan has the definition's works
-planned_works : (result : Result) (r : ActiveComponentPlan) → outcome_of (P.Plan r) ≡ outcome_in result
+planned_works : (result : Result) (r : ActiveComponentPlan) → outcome_of (Ok r) ≡ outcome_in result
     → (p : Plan) × (result ≡ planned p) × (p.whole_works ≡ works_of r.whole_works) × (p.dense_work ≡ r.estimated_dense_work)
     × (p.component_work ≡ r.estimated_component_work)
 planned_works (planned p) r e =
@@ -93,7 +93,7 @@ planned_works (planned p) r e =
 planned_works (refused_at number index) r e = let z : ◌≡◌ {A = ℕ} 0 1 = cc in absurd (omega arith)
 
 -- wherever a call gives whole works, its float works are these numbers
-pub call_works_agree : (h : Head) (ws : List ℕ) (before after : Buffers) (r : ActiveComponentPlan) → Answers h ws before after (P.Plan r)
+pub call_works_agree : (h : Head) (ws : List ℕ) (before after : Buffers) (r : ActiveComponentPlan) → Answers h ws before after (Ok r)
     → Agree (works_of r.whole_works) r.estimated_dense_work r.estimated_component_work
 call_works_agree h ws before after r a =
     let found = planned_works (plan_of h ws (lengths_of before)) r a.answer in
@@ -102,7 +102,7 @@ call_works_agree h ws before after r a =
     (subst₂ (λ (d c : Float). Agree p.whole_works d c) found.3 found.4 (works_agree h ws (lengths_of before) p found.1))
 
 -- and it says too wide exactly where the roll's width passes 38
-pub call_too_wide : (h : Head) (ws : List ℕ) (before after : Buffers) (r : ActiveComponentPlan) → Answers h ws before after (P.Plan r)
+pub call_too_wide : (h : Head) (ws : List ℕ) (before after : Buffers) (r : ActiveComponentPlan) → Answers h ws before after (Ok r)
     → 8 ≤ h.max_k → h.nexpvals ≡ 0 → TooWideExactly h.initial_k (instructions_of ws) (works_of r.whole_works)
 call_too_wide h ws before after r a wide none =
     let found = planned_works (plan_of h ws (lengths_of before)) r a.answer in
@@ -110,7 +110,7 @@ call_too_wide h ws before after r a wide none =
     (too_wide_exactly h ws (lengths_of before) found.0 (read_head h wide none) found.1)
 
 -- 02, CR 4, of the answer and the buffers that a call leaves: every dimension that is asked for is there
-pub call_dimensions : (h : Head) (ws : List ℕ) (before after : Buffers) (r : ActiveComponentPlan) → Answers h ws before after (P.Plan r)
+pub call_dimensions : (h : Head) (ws : List ℕ) (before after : Buffers) (r : ActiveComponentPlan) → Answers h ws before after (Ok r)
     → 8 ≤ h.max_k → h.nexpvals ≡ 0 → HasDimensions h.ceiling (length (instructions_of ws)) (plan_in r after)
 call_dimensions h ws before after r a wide none =
     let found = planned_pads (plan_of h ws (lengths_of before)) before after r a.answer a.held in
@@ -132,10 +132,10 @@ held_same p before after before' after' same held held' =
     }
 
 -- and under every other ceiling that is above max_k and above each size, a call gives the same answer and leaves the same words
-pub call_under : (h : Head) (ws : List ℕ) (before after : Buffers) (r : ActiveComponentPlan) → Answers h ws before after (P.Plan r)
+pub call_under : (h : Head) (ws : List ℕ) (before after : Buffers) (r : ActiveComponentPlan) → Answers h ws before after (Ok r)
     → (ceiling : ℕ) → HoldsPlan ceiling h (plan_in r after)
-    → (before' after' : Buffers) (r' : Planned) → lengths_of before' ≡ lengths_of before → Answers (under ceiling h) ws before' after' r'
-    → (outcome_of r' ≡ outcome_of (P.Plan r)) × (after' ≡ after)
+    → (before' after' : Buffers) (r' : Answered ActiveComponentPlan Refusal) → lengths_of before' ≡ lengths_of before → Answers (under ceiling h) ws before' after' r'
+    → (outcome_of r' ≡ outcome_of (Ok r)) × (after' ≡ after)
 call_under h ws before after r a ceiling holds before' after' r' same a' =
     let found = planned_pads (plan_of h ws (lengths_of before)) before after r a.answer a.held in
     let p = found.0 in

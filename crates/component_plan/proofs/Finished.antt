@@ -21,7 +21,7 @@ use Rattle.walk.specs.declared.Summary.{Summary}
 use Rattle.walk.specs.Walking.{Walkable, Ended, WalkEnds}
 use Rattle.lent.specs.Lent.{Held, RestCleared, UsedFit, lent_number}
 use Rattle.answer.specs.declared.ActiveComponentPlan.{ActiveComponentPlan}
-use Rattle.answer.specs.Outcome.{accepted, outcome_for}
+use Rattle.answer.specs.Outcome.{accepted, outcome_of}
 use Rattle.component_plan.specs.Answer.{Filled}
 use Rattle.component_plan.proofs.Filled.{front_fits, front_of_padded, used_fit, used_same, whole_same, size_words, walk_held}
 use Rattle.component_plan.proofs.Refusals.{lent_words, lent_few, lent_room, lent_initial, lent_passed, walk_finishes, filled_planned, plan_same}
@@ -76,7 +76,7 @@ module _ (h : Head) (dense_peak : ℕ) (ws : List ℕ) (before : Buffers) (lent 
 
       -- the answer is the definition's plan
       pub filled : (all : ℕ) (r : ActiveComponentPlan) → all ≡ allocated_for (take done.count cleared.sizes)
-          → outcome_for (Ok r)
+          → outcome_of (Ok r)
           ≡ accepted (chosen done.tally.quantum done.tally.dense done.tally.work all dense_peak) h.initial_k done.count done.tally.dense done.tally.work dense_peak done.tally.peak all
           (whole_works_of (record { dense = done.tally.whole_dense; component = done.tally.whole_work; widest = done.tally.widest }))
           (record {

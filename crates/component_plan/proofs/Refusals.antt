@@ -1,6 +1,6 @@
 -- How the answers of the parts make the answer of the whole: the definition's result is its first refusal, whose tests the number of `lent_number` tells, or what
 -- the record pass and the walk give, and a refusal or a plan that read nothing leaves zeros.
-use Rattle.std.specs.Prelude.{Option, Some, None, Result as Answered, Ok, Err, IsErr, IsErrAnd}
+use Rattle.std.specs.Prelude.{Option, Some, None, Result as Answered, Ok, Err, is_err, IsErr, IsErrAnd}
 use Prim.Native.Nat.{ℕ, ◌/◌, ◌%◌, ◌<◌, ◌≤◌}
 use native.Mathlib.Omega.{arith}
 use mathlib.Core.Path.{◌≡◌, refl, sym, ap, ap₂, ◌∙◌, subst}
@@ -15,6 +15,7 @@ use Rattle.kernels.specs.Bits.{dimension}
 use Rattle.refusals.specs.Answer.{Answer, given, refused}
 use Rattle.refusals.specs.Numbers.{number_of}
 use Rattle.refusals.specs.declared.Refusal.{Refusal}
+use Rattle.refusals.proofs.Laws.{err_is}
 use Rattle.records.specs.Pass.{Checked, record_pass}
 use Rattle.records.specs.declared.Head.{Head}
 use Rattle.definition.specs.Components.{allocated_for}
@@ -24,13 +25,12 @@ use Rattle.definition.specs.Plan.{Lengths, Plan, Result, planned, refused_at, ch
 use Rattle.definition.proofs.Steps.{cond_yes, cond_no}
 use Rattle.tally.specs.declared.WholeWorks.TheVariants as Whole
 use Rattle.answer.specs.declared.ActiveComponentPlan.{ActiveComponentPlan}
-use Rattle.answer.specs.declared.Planned.TheVariants as P
 use Rattle.walk.specs.declared.Summary.{Summary}
 use Rattle.outputs.specs.Outputs.{Buffers, lengths_of, SameLengths}
 use Rattle.walk.specs.Walking.{Ended, WalkEnds}
 use Rattle.lent.specs.Lent.{peak_answer, head_answer, Held, lent_number}
 use Rattle.outputs.specs.declared.WordCounts.{WordCounts}
-use Rattle.answer.specs.Outcome.{accepted, turned_away, outcome_for, used_in, outcome_in}
+use Rattle.answer.specs.Outcome.{accepted, turned_away, outcome_of, used_in, outcome_in}
 use Rattle.component_plan.specs.Answer.{Answers, Filled}
 
 -- ---- refusals 2 to 4
@@ -99,7 +99,7 @@ filled_refused result before after refusal e = record {
 }
 
 pub filled_planned : (result : Result) (before after : Buffers) (p : Plan) (r : Answered ActiveComponentPlan Refusal)
-    → result ≡ planned p → outcome_for r ≡ outcome_in (planned p) → Held (planned p) before after → Filled result before after r
+    → result ≡ planned p → outcome_of r ≡ outcome_in (planned p) → Held (planned p) before after → Filled result before after r
 filled_planned result before after p r e answer held = record {
   answer = answer ∙ sym (ap outcome_in e);
   held = λ q f. subst (λ (x : Result). Held x before after) (sym e ∙ f) held;
@@ -115,10 +115,10 @@ pub plan_same : (initial dense_peak : ℕ) (w : Walk) (s : Summary) (b : Buffers
     → allocated ≡ allocated_for w.longest
     → whole ≡ whole_works_of w.whole
     → used ≡ used_in (plan_from initial dense_peak w)
-    → outcome_for (Ok r)
+    → outcome_of (Ok r)
     ≡ accepted (chosen s.tally.quantum s.tally.dense s.tally.work allocated dense_peak) initial s.count s.tally.dense s.tally.work dense_peak
     s.tally.peak allocated whole used
-    → outcome_for (Ok r) ≡ outcome_in (planned (plan_from initial dense_peak w))
+    → outcome_of (Ok r) ≡ outcome_in (planned (plan_from initial dense_peak w))
 unfolding plan_from
 plan_same initial dense_peak w s b allocated whole used r ended all same counted e =
     e ∙ fields ended.sums.quantum ended.sums.dense ended.sums.work all ended.count ended.sums.peak same counted
@@ -143,9 +143,9 @@ pub unread_same : (initial dense_peak : ℕ) (r : ActiveComponentPlan)
       whole_works = Whole.WithoutQuotient 0;
       used = record { steps = 0; merges = 0; sizes = 0; rotations = 0; promotions = 0; measurements = 0 };
     }
-    → outcome_for (Ok r) ≡ outcome_in (planned (unread_plan initial dense_peak))
+    → outcome_of (Ok r) ≡ outcome_in (planned (unread_plan initial dense_peak))
 unfolding unread_plan
-unread_same initial dense_peak r e = ap (λ (p : ActiveComponentPlan). outcome_for (Ok p)) e
+unread_same initial dense_peak r e = ap (λ (p : ActiveComponentPlan). outcome_of (Ok p)) e
 
 -- ---- zeros
 
@@ -210,26 +210,27 @@ away (planned p) number index e = let z : ◌≡◌ {A = ℕ} 0 1 = cc in absurd
 away (refused_at n i) number index e = let same : n ≡ number = cc in let at : i ≡ index = cc in ap₂ refused_at same at
 
 -- and a plan's is a plan's
-stays : (result : Result) (x : ActiveComponentPlan) → outcome_for (Ok x) ≡ outcome_in result → (p : Plan) × (result ≡ planned p)
+stays : (result : Result) (x : ActiveComponentPlan) → outcome_of (Ok x) ≡ outcome_in result → (p : Plan) × (result ≡ planned p)
 stays (planned p) x e = (p, refl)
 stays (refused_at n i) x e = let z : ◌≡◌ {A = ℕ} 0 1 = cc in absurd (omega arith)
 
-pub planned_answers : (h : Head) (ws : List ℕ) (before after : Buffers) (r : Answered ActiveComponentPlan Refusal) (x : ActiveComponentPlan)
-    → Filled (plan_of h ws (lengths_of before)) before after r → r ≡ Ok x → Answers h ws before after (P.Plan x)
-planned_answers h ws before after r x f e =
-    let told = sym (ap outcome_for e) ∙ f.answer in
-    let plan = stays (plan_of h ws (lengths_of before)) x told in record {
-      answer = told;
+pub planned_answers : (h : Head) (ws : List ℕ) (before after : Buffers) (r : Answered ActiveComponentPlan Refusal)
+    → Filled (plan_of h ws (lengths_of before)) before after r → is_err r ≡ false → Answers h ws before after r
+planned_answers h ws before after (Ok x) f e =
+    let plan = stays (plan_of h ws (lengths_of before)) x f.answer in record {
+      answer = f.answer;
       held = subst (λ (y : Result). Held y before after) (sym plan.1) (f.held plan.0 plan.1);
     }
+planned_answers h ws before after (Err refusal) f e = let z : ◌≡◌ {A = ℕ} 0 1 = cc in absurd (omega arith)
 
-pub refused_answers : (h : Head) (ws : List ℕ) (before between after : Buffers) (r : Answered ActiveComponentPlan Refusal) (refusal : Refusal) (number : ℕ)
-    → Filled (plan_of h ws (lengths_of before)) before between r → r ≡ Err refusal → number ≡ number_of refusal.reason → SameLengths before between
-    → Held (refused_at 0 0) between after → Answers h ws before after (P.Refused number refusal.index)
-refused_answers h ws before between after r refusal number f e is same zeros =
-    let told = ap (λ (n : ℕ). turned_away n refusal.index) is ∙ sym (ap outcome_for e) ∙ f.answer in
-    let gone = away (plan_of h ws (lengths_of before)) number refusal.index told in record {
-      answer = told;
+pub refused_answers : (h : Head) (ws : List ℕ) (before between after : Buffers) (r : Answered ActiveComponentPlan Refusal)
+    → Filled (plan_of h ws (lengths_of before)) before between r → is_err r ≡ true → SameLengths before between
+    → Held (refused_at 0 0) between after → Answers h ws before after r
+refused_answers h ws before between after (Ok x) f e same zeros = let z : ◌≡◌ {A = ℕ} 0 1 = cc in absurd (omega arith)
+refused_answers h ws before between after (Err refusal) f e same zeros =
+    let number = number_of refusal.reason in
+    let gone = away (plan_of h ws (lengths_of before)) number refusal.index f.answer in record {
+      answer = f.answer;
       held = subst (λ (y : Result). Held y before after) (sym gone) (zeros_held 0 0 number refusal.index before between after same zeros);
     }
 
@@ -251,5 +252,5 @@ unread_neither h large e = ap (λ (a : Bool). a || not (eqb h.nexpvals 0)) (le-l
 -- what `?` hands on
 pub filled_error : (result : Result) (before after : Buffers) (r : Answered ActiveComponentPlan Refusal) (refusal : Refusal) → IsErr r → IsErrAnd r (λ e. e ≡ refusal)
     → result ≡ refused_at (number_of refusal.reason) refusal.index → Filled result before after r
-filled_error result before after (Ok p) refusal is same e = let z : ◌≡◌ {A = ℕ} 0 1 = cc in absurd (omega arith)
-filled_error result before after (Err x) refusal is same e = filled_refused result before after x (e ∙ ap (λ (y : Refusal). refused_at (number_of y.reason) y.index) (sym same))
+filled_error result before after r refusal is same e =
+    subst (λ (x : Answered ActiveComponentPlan Refusal). Filled result before after x) (sym (err_is r refusal same)) (filled_refused result before after refusal e)

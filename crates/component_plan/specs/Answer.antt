@@ -6,17 +6,16 @@ use Rattle.definition.specs.Plan.{Plan, Result, planned, plan_of, plan_read}
 use Rattle.outputs.specs.Outputs.{Buffers, lengths_of}
 use Rattle.lent.specs.Lent.{Held}
 use Rattle.answer.specs.declared.ActiveComponentPlan.{ActiveComponentPlan}
-use Rattle.answer.specs.declared.Planned.{Planned}
-use Rattle.answer.specs.Outcome.{outcome_of, outcome_for, outcome_in}
+use Rattle.answer.specs.Outcome.{outcome_of, outcome_in}
 
 -- the answer and every buffer are the definition's
-pub record Answers (h : Head) (ws : List ℕ) (before after : Buffers) (r : Planned) : Type 0 where
+pub record Answers (h : Head) (ws : List ℕ) (before after : Buffers) (r : Answered ActiveComponentPlan Refusal) : Type 0 where
   pub answer : outcome_of r ≡ outcome_in (plan_of h ws (lengths_of before))
   pub held : Held (plan_of h ws (lengths_of before)) before after
 
 -- the same of a result of the definition, but that a refusal leaves the buffers open
 pub record Filled (result : Result) (before after : Buffers) (r : Answered ActiveComponentPlan Refusal) : Type 0 where
-  pub answer : outcome_for r ≡ outcome_in result
+  pub answer : outcome_of r ≡ outcome_in result
   pub held : (p : Plan) → result ≡ planned p → Held (planned p) before after
 
 -- of a program

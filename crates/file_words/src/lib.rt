@@ -1,7 +1,7 @@
-// Words of 64 bits in a file of bytes, the lowest byte first: written from a place on, read at a place, and zeros behind.
+// Words of 64 bits in a file of bytes, the lowest byte first: written from a place on and read at a place.
 #![tactic(auto)]
 
-ghost use Rattle.std.specs.Prelude.{◌≡◌, ◌++◌, ◌+◌, ◌-◌, ◌*◌, ◌≤◌, length, take, replicate};
+ghost use Rattle.std.specs.Prelude.{◌≡◌, ◌+◌, ◌*◌, ◌≤◌, length};
 ghost use Rattle.outputs.specs.Buffers.{patch};
 ghost use Rattle.file_words.specs.Words.{word_bytes, word_at, words_at};
 
@@ -32,14 +32,5 @@ pub fn get_words(file: &[u8], at: usize, words: &mut [u64])
 {
     for i in 0..words.len() {
         words[i] = word_at(file, at + i);
-    }
-}
-
-// Zeroes the bytes from a place on.
-pub fn clear_bytes(file: &mut [u8], from: usize)
-    ensures { file.new ≡ take from file.old ++ replicate (length file.old - from) 0 }
-{
-    if from < file.len() {
-        file[from..].fill(0);
     }
 }

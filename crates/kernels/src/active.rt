@@ -9,14 +9,14 @@ use crate::bits::{active_length, bit_at, highest_set_bit, is_odd_popcount, witho
 use refusals::Reason;
 use std::ops::Neg;
 
-#[derive(Clone, Copy)]
+#[derive(Clone, Copy, Debug, PartialEq)]
 pub struct Complex64 {
     pub re: f64,
     pub im: f64,
 }
 
 // The angle of a rotation, with its sine and cosine.
-#[derive(Clone, Copy)]
+#[derive(Clone, Copy, Debug, PartialEq)]
 pub struct Angle {
     pub value: f64,
     pub sine: f64,
@@ -25,7 +25,7 @@ pub struct Angle {
 
 // A Pauli as one word of X bits and one of Z bits. A basis index that overlaps the Z bits in an odd number of places
 // takes the odd phase, and any other the even one.
-#[derive(Clone, Copy)]
+#[derive(Clone, Copy, Debug, PartialEq)]
 pub struct ActivePauliAction {
     pub nqubits: u64,
     pub xmask: u64,
@@ -35,7 +35,7 @@ pub struct ActivePauliAction {
     pub xz_overlap_odd: bool,
 }
 
-#[derive(Clone, Copy)]
+#[derive(Clone, Copy, Debug, PartialEq)]
 pub struct PrecomputedActivePauliRotationKernel {
     pub action: ActivePauliAction,
     pub is_diagonal: bool,
@@ -49,7 +49,7 @@ pub struct PrecomputedActivePauliRotationKernel {
     pub minus_even_coefficient: Complex64,
 }
 
-#[derive(Clone, Copy)]
+#[derive(Clone, Copy, Debug, PartialEq)]
 pub struct PrecomputedActivePauliMeasurementKernel {
     pub action: ActivePauliAction,
     pub pivot: u64,

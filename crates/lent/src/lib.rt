@@ -5,12 +5,13 @@
 ghost use Rattle.std.specs.Prelude.{◌≡◌, ◌^◌, ◌<◌};
 ghost use Rattle.refusals.specs.Answer.{answer_of, number_or_0};
 ghost use Rattle.definition.specs.Plan.{chosen, buffers_refused, refused_at};
-ghost use Rattle.outputs.specs.Outputs.{buffers_of, lengths_of, SameOutputs};
+ghost use Rattle.outputs.specs.Outputs.{buffers_of, lengths_of};
+ghost use Rattle.outputs.specs.Stored.{SameOutputs};
 ghost use Rattle.lent.specs.Lent.{head_answer, Held, lent_number, UsedFit, RestCleared};
 
 use kernels::bits::active_length;
-use outputs::Outputs;
-use outputs::buffers::clear_from;
+use outputs::buffers::fill_from;
+use outputs::{StoredOutputs, WordCounts};
 use records::Head;
 use refusals::Reason;
 use walk::Summary;
@@ -29,17 +30,19 @@ pub fn dense_peak(head: Head) -> Result<u64, Reason>
 }
 
 // Whether one of the buffers is too short for n records.
-pub fn buffers_short(n: usize, out: &Outputs) -> bool
+pub fn buffers_short(n: usize, out: &StoredOutputs, groups: &[u64]) -> bool
     requires { n < 2 ^ 58 }
-    ensures { result ≡ buffers_refused n (lengths_of (buffers_of out.now)) }
+    ensures { result ≡ buffers_refused n (lengths_of (buffers_of out.now groups.now)) }
 {
-    out.steps.len() < 2 * n
-        || out.merges.len() < n + 512
-        || out.sizes.len() < 512
-        || out.rotations.len() < 21 * n
-        || out.promotions.len() < n
-        || out.measurements.len() < 19 * n
-        || out.groups.len() < 1024
+    let needed = WordCounts {
+        steps: 2 * n,
+        merges: n + 512,
+        sizes: 512,
+        rotations: 21 * n,
+        promotions: n,
+        measurements: 19 * n,
+    };
+    out.lengths().short_of(needed) || groups.len() < 1024
 }
 
 // Refusals 2 to 4.
@@ -59,33 +62,28 @@ pub fn check_lent(initial_k: u64, words: usize, short: bool) -> Result<(), Reaso
 }
 
 // Zeroes what the used words leave of each buffer.
-pub fn clear_rest(done: Summary, n: usize, out: &mut Outputs)
+pub fn clear_rest(done: Summary, n: usize, out: &mut StoredOutputs, groups: &mut [u64])
     requires { UsedFit done n }
     ensures same { SameOutputs out.old out.new }
-    ensures cleared { RestCleared done n (buffers_of out.old) (buffers_of out.new) }
+    ensures cleared { RestCleared done n (buffers_of out.old groups.old) (buffers_of out.new groups.new) }
 {
     let tally = done.tally;
-    clear_from(out.steps, 2 * n);
-    clear_from(out.merges, tally.merges);
-    clear_from(out.sizes, done.count);
-    clear_from(out.rotations, 21 * tally.rotations);
-    clear_from(out.promotions, tally.promotions);
-    clear_from(out.measurements, 19 * tally.measurements);
-    clear_from(out.groups, done.groups);
+    fill_from(out.steps, 2 * n, 0);
+    fill_from(out.merges, tally.merges, 0);
+    fill_from(out.sizes, done.count, 0);
+    fill_from(out.rotations, 21 * tally.rotations, 0);
+    fill_from(out.promotions, tally.promotions, 0);
+    fill_from(out.measurements, 19 * tally.measurements, 0);
+    fill_from(groups, done.groups, 0);
 }
 
 // Zeroes the seven buffers.
-pub fn clear_all(out: &mut Outputs)
+pub fn clear_all(out: &mut StoredOutputs, groups: &mut [u64])
     ensures same { SameOutputs out.old out.new }
-    ensures cleared { Held (refused_at 0 0) (buffers_of out.old) (buffers_of out.new) }
+    ensures cleared { Held (refused_at 0 0) (buffers_of out.old groups.old) (buffers_of out.new groups.new) }
 {
-    clear_from(out.steps, 0);
-    clear_from(out.merges, 0);
-    clear_from(out.sizes, 0);
-    clear_from(out.rotations, 0);
-    clear_from(out.promotions, 0);
-    clear_from(out.measurements, 0);
-    clear_from(out.groups, 0);
+    out.clear();
+    fill_from(groups, 0, 0);
 }
 
 // Whether the component path is worth its cost.

@@ -1,5 +1,7 @@
 -- What the contract of `midvokt_plan` says: its answer, the words of `result`, and the seven buffers, for the definition.
-use Rattle.std.specs.Prelude.{ℕ, ◌≡◌, List, [], ◌∷◌, map, length, get_or}
+use Rattle.std.specs.Prelude.{ℕ, ◌≡◌, List, [], ◌∷◌, map, length, get_or, Result as Answered, Ok, Err}
+use Rattle.refusals.specs.Numbers as Reasons
+use Rattle.refusals.specs.declared.Refusal.{Refusal}
 use Rattle.records.specs.declared.Head.{Head}
 use Rattle.definition.specs.Lists.{numbers_from}
 use Rattle.definition.specs.WholeWorks.{whole_words}
@@ -13,6 +15,11 @@ use Rattle.answer.specs.Outcome.{Outcome, accepted, turned_away, outcome_in}
 abbrev pub number_of : Outcome → ℕ
 number_of (accepted selected initial count dense component dense_peak peak allocated whole used) = 0
 number_of (turned_away number index) = number
+
+-- of the code's answer
+abbrev pub number_in : {A : Type 0} → Answered A Refusal → ℕ
+number_in (Ok value) = 0
+number_in (Err refusal) = Reasons.number_of refusal.reason
 
 -- the refusal's record index, 0 for a plan; then "the eight scalar fields in order", works as bits; then the five words of the whole works
 abbrev pub words_of : Outcome → List ℕ

@@ -7,7 +7,9 @@ use Rattle.lent.specs.Lent.{Held}
 use Rattle.stored_plan.specs.Stored.{file_of}
 use Rattle.stored_plan.specs.Reading.{read_file}
 use Rattle.stored_plan.specs.Loading as Loading
-use Rattle.stored_plan.specs.Loading.{Outputs, Restored}
+use Rattle.outputs.specs.Stored as Six
+use Rattle.outputs.specs.Stored.{Outputs}
+use Rattle.stored_plan.specs.Loading.{Restored}
 use Rattle.store.specs.Storing as Storing
 use Rattle.store.specs.Storing.{store_of}
 use Rattle.midvokt.specs.Reply.{laid_out}
@@ -44,6 +46,6 @@ load_words (Loading.given scalars counts) =
 load_words (Loading.turned_away number) = replicate 15 0
 
 pub record LoadReplies (file : List ℕ) (before after : Outputs) (lent filled : List ℕ) (r : ℕ) : Type 0 where
-  pub number : r ≡ load_number (Loading.outcome_in (read_file file (Loading.lengths_of before)))
-  pub result : filled ≡ laid_out (length lent) (load_words (Loading.outcome_in (read_file file (Loading.lengths_of before))))
-  pub held : Restored (read_file file (Loading.lengths_of before)) before after
+  pub number : r ≡ load_number (Loading.outcome_in (read_file file (Six.lengths_of before)))
+  pub result : filled ≡ laid_out (length lent) (load_words (Loading.outcome_in (read_file file (Six.lengths_of before))))
+  pub held : Restored (read_file file (Six.lengths_of before)) before after

@@ -4,100 +4,93 @@
 
 pub mod stored;
 
-ghost use Rattle.std.specs.Prelude.{◌≡◌, length, get_or};
+ghost use Rattle.std.specs.Prelude.{◌≡◌, length, Ok};
 ghost use Rattle.definition.specs.WholeWorks.{whole_words};
 ghost use Rattle.tally.specs.Tally.{works_of};
 ghost use Rattle.answer.specs.Outcome.{outcome_of};
-ghost use Rattle.midvokt.specs.Reply.{Replies, number_of, words_of, laid_out};
+ghost use Rattle.midvokt.specs.Reply.{Replies, number_in, words_of, laid_out};
 
-use answer::{ActiveComponentPlan, Planned};
+use answer::ActiveComponentPlan;
 use component_plan::build_active_component_plan;
+use outputs::StoredOutputs;
+use outputs::buffers::fill_from;
 use records::Head;
+use refusals::Refusal;
 use rows::float_bits;
 use tally::WholeWorks;
 
-// 0 for a plan, and else the refusal's number.
-fn reply_number(planned: Planned) -> u64
-    ensures { result ≡ number_of (outcome_of planned) }
+// 0 for an answer, and else the refusal's number.
+// Kept: what C's calls return is a plain number.
+fn reply_number<T: Copy>(answer: Result<T, Refusal>) -> u64
+    ensures { result ≡ number_in answer }
 {
-    match planned {
-        Planned::Plan(plan) => 0,
-        Planned::Refused { number, index } => number,
+    match answer {
+        Ok(_) => 0,
+        Err(refusal) => refusal.reason.number(),
     }
 }
 
-// Word i of the whole works: the mark, dense, component, quotient and remainder, and 0 past them.
-fn whole_word(works: WholeWorks, i: usize) -> u64
-    ensures { result ≡ get_or (whole_words (works_of works)) i 0 }
+// Writes words into the result, as many as there is room for, and zeros behind them.
+fn lay_out(words: &[u64], res: &mut [u64])
+    ensures { res.new ≡ laid_out (length res.old) words.now }
+{
+    let n = words.len().min(res.len());
+    res[..n].copy_from_slice(&words[..n]);
+    fill_from(res, n, 0);
+}
+
+// The five words of the whole works: the mark, dense, component, quotient and remainder, and 0 for what a mark does not give.
+fn whole_words(works: WholeWorks) -> [u64; 5]
+    ensures { result ≡ whole_words (works_of works) }
 {
     match works {
-        WholeWorks::TooWide => 0,
-        WholeWorks::WithoutQuotient { dense } => match i {
-            0 => 1,
-            1 => dense,
-            _ => 0,
-        },
+        WholeWorks::TooWide => [0, 0, 0, 0, 0],
+        WholeWorks::WithoutQuotient { dense } => [1, dense, 0, 0, 0],
         WholeWorks::WithQuotient {
             dense,
             component,
             quotient,
             remainder,
-        } => match i {
-            0 => 2,
-            1 => dense,
-            2 => component,
-            3 => quotient,
-            4 => remainder,
-            _ => 0,
-        },
+        } => [2, dense, component, quotient, remainder],
     }
 }
 
-// Word i of a plan's result: 0, the eight scalar fields, the five words of the whole works, and 0 past them.
-fn plan_word(plan: ActiveComponentPlan, i: usize) -> u64
-    ensures { result ≡ get_or (words_of (outcome_of (Planned.Plan plan))) i 0 }
+// The words of a plan's result: 0, the eight scalar fields, and the five words of the whole works.
+fn plan_words(plan: ActiveComponentPlan) -> [u64; 14]
+    ensures { result ≡ words_of (outcome_of (Ok plan)) }
 {
-    match i {
-        1 => u64::from(plan.selected),
-        2 => plan.initial_components,
-        3 => plan.component_count,
-        4 => float_bits(plan.estimated_dense_work),
-        5 => float_bits(plan.estimated_component_work),
-        6 => plan.dense_peak_dimension,
-        7 => plan.component_peak_live_dimension,
-        8 => plan.component_allocated_dimension,
-        _ => {
-            if i < 9 {
-                return 0;
-            }
-            let works = plan.whole_works;
-            whole_word(works, i - 9)
-        }
-    }
+    let [mark, dense, component, quotient, remainder] = whole_words(plan.whole_works);
+    [
+        0,
+        u64::from(plan.selected),
+        plan.initial_components,
+        plan.component_count,
+        float_bits(plan.estimated_dense_work),
+        float_bits(plan.estimated_component_work),
+        plan.dense_peak_dimension,
+        plan.component_peak_live_dimension,
+        plan.component_allocated_dimension,
+        mark,
+        dense,
+        component,
+        quotient,
+        remainder,
+    ]
 }
 
-// Word i of the result.
-fn result_word(planned: Planned, i: usize) -> u64
-    ensures { result ≡ get_or (words_of (outcome_of planned)) i 0 }
-{
-    match planned {
-        Planned::Plan(plan) => plan_word(plan, i),
-        Planned::Refused { number, index } => { if i == 0 { index } else { 0 } }
-    }
-}
-
-// Writes the result, as many of its words as there is room for, and zeros behind them.
-fn write_result(planned: Planned, res: &mut [u64])
+// Writes the result: the words of a plan, or a refusal's record index.
+fn write_result(planned: Result<ActiveComponentPlan, Refusal>, res: &mut [u64])
     ensures { res.new ≡ laid_out (length res.old) (words_of (outcome_of planned)) }
 {
-    let mut i: usize = 0;
-    while i < res.len() {
-        res[i] = result_word(planned, i);
-        i += 1;
+    match planned {
+        Ok(plan) => lay_out(&plan_words(plan), res),
+        Err(refusal) => lay_out(&[refusal.index], res),
     }
 }
 
 // Plans a program into the seven buffers and the result; 0, or the refusal's number.
+// Kept: C's words and slices, one by one.
+#[tactic(auto, using(crate::proofs::Laid::plan_told))]
 pub fn midvokt_plan(
     initial_k: u64,
     max_k: u64,
@@ -121,17 +114,15 @@ pub fn midvokt_plan(
         nexpvals,
         ceiling,
     };
-    let planned = build_active_component_plan(
-        head,
-        records,
+    let mut out = StoredOutputs {
         steps,
         merges,
         sizes,
         rotations,
         promotions,
         measurements,
-        groups,
-    );
+    };
+    let planned = build_active_component_plan(head, records, &mut out, groups);
     write_result(planned, res);
     reply_number(planned)
 }

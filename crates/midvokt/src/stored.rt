@@ -1,60 +1,23 @@
 // Stored plans: a plan written into a file's bytes, and read back from them.
-ghost use Rattle.std.specs.Prelude.{◌≡◌, length, get_or};
+ghost use Rattle.std.specs.Prelude.{◌≡◌};
 ghost use Rattle.stored_plan.specs.Loading as Loading;
 ghost use Rattle.store.specs.Storing as Storing;
-ghost use Rattle.midvokt.specs.Reply.{laid_out};
-ghost use Rattle.midvokt.specs.Stored.{store_number, store_words, StoreReplies, load_number, load_words, LoadReplies};
+ghost use Rattle.midvokt.specs.Stored.{store_words, StoreReplies, load_words, LoadReplies};
 
+use crate::{lay_out, reply_number};
+use outputs::StoredOutputs;
 use records::Head;
-use refusals::Reason;
-use store::{Stored, store};
-use stored_plan::{StoredOutputs, StoredPlan, load};
-
-// Word i, and 0 past the last.
-fn word_or_zero(words: &[u64], i: usize) -> u64
-    ensures { result ≡ get_or words.now i 0 }
-{
-    if i < words.len() { words[i] } else { 0 }
-}
-
-// Writes words into the result, as many as there is room for, and zeros behind them.
-fn lay_out(words: &[u64], res: &mut [u64])
-    ensures { res.new ≡ laid_out (length res.old) words.now }
-{
-    let mut i: usize = 0;
-    while i < res.len() {
-        res[i] = word_or_zero(words, i);
-        i += 1;
-    }
-}
-
-// 0 for a file, and else the refusal's number.
-fn store_number(stored: Stored) -> u64
-    ensures { result ≡ store_number (Storing.outcome_of stored) }
-{
-    match stored {
-        Stored::File { length } => 0,
-        Stored::Refused { number, index } => number,
-    }
-}
+use refusals::{Reason, Refusal};
+use store::store;
+use stored_plan::{StoredPlan, load};
 
 // The refusal's record index and the file's length in bytes.
-fn store_words(stored: Stored) -> [u64; 2]
+fn store_words(stored: Result<usize, Refusal>) -> [u64; 2]
     ensures { result ≡ store_words (Storing.outcome_of stored) }
 {
     match stored {
-        Stored::File { length } => [0, length as u64],
-        Stored::Refused { number, index } => [index, 0],
-    }
-}
-
-// 0 for a plan, and else the refusal's number.
-fn load_number(loaded: Result<StoredPlan, Reason>) -> u64
-    ensures { result ≡ load_number (Loading.outcome_of loaded) }
-{
-    match loaded {
-        Ok(_) => 0,
-        Err(reason) => reason.number(),
+        Ok(length) => [0, length as u64],
+        Err(refusal) => [refusal.index, 0],
     }
 }
 
@@ -87,6 +50,8 @@ fn load_words(loaded: Result<StoredPlan, Reason>) -> [u64; 15]
 }
 
 // Plans a program into the seven buffers and stores the plan in the file; 0, or the refusal's number.
+// Kept: C's words and slices, one by one.
+#[tactic(auto, using(crate::proofs::Laid::store_told))]
 pub fn midvokt_store(
     initial_k: u64,
     max_k: u64,
@@ -111,24 +76,21 @@ pub fn midvokt_store(
         nexpvals,
         ceiling,
     };
-    let stored = store(
-        head,
-        records,
+    let mut out = StoredOutputs {
         steps,
         merges,
         sizes,
         rotations,
         promotions,
         measurements,
-        groups,
-        file,
-    );
-    let words = store_words(stored);
-    lay_out(&words[..], res);
-    store_number(stored)
+    };
+    let stored = store(head, records, &mut out, groups, file);
+    lay_out(&store_words(stored), res);
+    reply_number(stored)
 }
 
 // Reads a stored plan into the six buffers and the result; 0, or the refusal's number.
+// Kept: C's words and slices, one by one.
 pub fn midvokt_load(
     file: &[u8],
     steps: &mut [u64],
@@ -150,7 +112,6 @@ pub fn midvokt_load(
         measurements,
     };
     let loaded = load(file, &mut out);
-    let words = load_words(loaded);
-    lay_out(&words[..], res);
-    load_number(loaded)
+    lay_out(&load_words(loaded), res);
+    reply_number(loaded.map_err(Refusal::from))
 }

@@ -9,6 +9,7 @@ use midvokt::midvokt_plan as plan_call;
 use midvokt::stored::{midvokt_load as load_call, midvokt_store as store_call};
 
 // Plans a program into the seven buffers and the result; 0, or the refusal's number.
+// Kept: C's words and slices, one by one.
 #[unsafe(no_mangle)]
 pub extern "C" fn midvokt_plan(
     initial_k: u64,
@@ -45,6 +46,7 @@ pub extern "C" fn midvokt_plan(
 }
 
 // Plans a program into the seven buffers and stores the plan in the file; 0, or the refusal's number.
+// Kept: C's words and slices, one by one.
 #[unsafe(no_mangle)]
 pub extern "C" fn midvokt_store(
     initial_k: u64,
@@ -83,6 +85,7 @@ pub extern "C" fn midvokt_store(
 }
 
 // Reads a stored plan into the six buffers and the result; 0, or the refusal's number.
+// Kept: C's words and slices, one by one.
 #[unsafe(no_mangle)]
 pub extern "C" fn midvokt_load(
     file: &[u8],

@@ -1,7 +1,7 @@
--- The seven lent buffers: the words behind an `Outputs`, their lengths, and that an `Outputs` lends the same buffers as another.
+-- The seven lent buffers, which are the six outputs of a `StoredOutputs` and the groups: their words and their lengths.
 use Rattle.std.specs.Prelude.{ℕ, ◌≡◌, List, length}
 use Rattle.definition.specs.Plan.{Lengths}
-use Rattle.outputs.specs.declared.Outputs.{Outputs}
+use Rattle.outputs.specs.declared.StoredOutputs.{StoredOutputs}
 
 -- the words of the seven lent buffers
 pub record Buffers : Type 0 where
@@ -34,25 +34,14 @@ pub record SameLengths (before after : Buffers) : Type 0 where
   pub measurements : length after.measurements ≡ length before.measurements
   pub groups : length after.groups ≡ length before.groups
 
--- what stands in the buffers that are lent
-abbrev pub buffers_of : Outputs → Buffers
-buffers_of o = record {
+-- what stands in the buffers that are lent, the six outputs and the groups
+abbrev pub buffers_of : StoredOutputs → List ℕ → Buffers
+buffers_of o groups = record {
   steps = o.steps.now;
   merges = o.merges.now;
   sizes = o.sizes.now;
   rotations = o.rotations.now;
   promotions = o.promotions.now;
   measurements = o.measurements.now;
-  groups = o.groups.now;
+  groups = groups;
 }
-
--- each buffer is the one that was lent, and not another in its place
-pub record SameOutputs (before after : Outputs) : Type 0 where
-  pub steps : after.steps.ghost_name ≡ before.steps.ghost_name
-  pub merges : after.merges.ghost_name ≡ before.merges.ghost_name
-  pub sizes : after.sizes.ghost_name ≡ before.sizes.ghost_name
-  pub rotations : after.rotations.ghost_name ≡ before.rotations.ghost_name
-  pub promotions : after.promotions.ghost_name ≡ before.promotions.ghost_name
-  pub measurements : after.measurements.ghost_name ≡ before.measurements.ghost_name
-  pub groups : after.groups.ghost_name ≡ before.groups.ghost_name
-  pub lengths : SameLengths (buffers_of before) (buffers_of after)

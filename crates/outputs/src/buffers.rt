@@ -3,12 +3,14 @@ ghost use Rattle.std.specs.Prelude.{◌≡◌, ◌++◌, ◌+◌, ◌-◌, ◌^�
 ghost use Rattle.definition.specs.Components.{allocated_for};
 ghost use Rattle.outputs.specs.Buffers.{AllBelow, counts_of, CountsFit, placed_up_to, PlacesFit};
 
-// Zeroes the words from a place on.
-pub fn clear_from(words: &mut [u64], from: usize)
-    ensures { words.new ≡ take from words.old ++ replicate (length words.old - from) 0 }
+// Gives every entry from a place on one value.
+// Kept: a loop over the places and no `fill`, which asks that a clone cannot fail and is the value; of a type parameter the
+// check does not know that (tried).
+pub fn fill_from<T: Copy>(entries: &mut [T], from: usize, value: T)
+    ensures { entries.new ≡ take from entries.old ++ replicate (length entries.old - from) value }
 {
-    if from < words.len() {
-        words[from..].fill(0);
+    for i in from..entries.len() {
+        entries[i] = value;
     }
 }
 

@@ -3,16 +3,22 @@
 
 pub mod buffers;
 
-// The seven lent buffers that planning writes.
+ghost use Rattle.std.specs.Prelude.{◌≡◌};
+ghost use Rattle.outputs.specs.Stored.{outputs_of, lengths_of, outputs_short, SameOutputs, Cleared};
+
+use crate::buffers::fill_from;
+
+// The six lent outputs that a stored plan has too.
+// Kept: planning's seventh buffer, the groups, is lent beside it. In a struct that holds this struct the six lose what their
+// owner knows of them after a call (tried), and in one struct of all seven zeroing and lengths would stand twice.
 #[derive(Drop)]
-pub struct Outputs<'a> {
+pub struct StoredOutputs<'a> {
     pub steps: &'a mut [u64],
     pub merges: &'a mut [u64],
     pub sizes: &'a mut [u64],
     pub rotations: &'a mut [u64],
     pub promotions: &'a mut [u64],
     pub measurements: &'a mut [u64],
-    pub groups: &'a mut [u64],
 }
 
 // So many words of each of the first six outputs.
@@ -24,4 +30,47 @@ pub struct WordCounts {
     pub rotations: usize,
     pub promotions: usize,
     pub measurements: usize,
+}
+
+impl WordCounts {
+    // Whether one of these is less than the other's.
+    pub fn short_of(self, needed: WordCounts) -> bool
+        ensures { result ≡ outputs_short self needed }
+    {
+        self.steps < needed.steps
+            || self.merges < needed.merges
+            || self.sizes < needed.sizes
+            || self.rotations < needed.rotations
+            || self.promotions < needed.promotions
+            || self.measurements < needed.measurements
+    }
+}
+
+impl StoredOutputs<'_> {
+    // How many words each has room for.
+    pub fn lengths(&self) -> WordCounts
+        ensures { result ≡ lengths_of (outputs_of self.now) }
+    {
+        WordCounts {
+            steps: self.steps.len(),
+            merges: self.merges.len(),
+            sizes: self.sizes.len(),
+            rotations: self.rotations.len(),
+            promotions: self.promotions.len(),
+            measurements: self.measurements.len(),
+        }
+    }
+
+    // Zeroes all six.
+    pub fn clear(&mut self)
+        ensures same { SameOutputs self.old self.new }
+        ensures cleared { Cleared (outputs_of self.old) (outputs_of self.new) }
+    {
+        fill_from(self.steps, 0, 0);
+        fill_from(self.merges, 0, 0);
+        fill_from(self.sizes, 0, 0);
+        fill_from(self.rotations, 0, 0);
+        fill_from(self.promotions, 0, 0);
+        fill_from(self.measurements, 0, 0);
+    }
 }

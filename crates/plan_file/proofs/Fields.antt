@@ -1,16 +1,16 @@
 -- The fields of an answer are those of the definition's plan: an answer and a result that say the same have the same fields, so the scalar words are the plan's.
+use Rattle.std.specs.Prelude.{Ok}
 use mathlib.Core.Path.{◌≡◌, refl}
 use Prim.Native.Nat.{ℕ}
 use native.Mathlib.Omega.{arith}
 use Rattle.definition.specs.Plan.{Plan, Result, planned, refused_at}
 use Rattle.answer.specs.declared.ActiveComponentPlan.{ActiveComponentPlan}
-use Rattle.answer.specs.declared.Planned.TheVariants as P
 use Rattle.answer.specs.Outcome.{outcome_of, used_in, outcome_in}
 use Rattle.stored_plan.specs.Stored.{scalars_of}
 use Rattle.plan_file.specs.Writing.{scalars_in}
 
 -- the definition's plan, with its scalar words and its counts
-pub found : (result : Result) (r : ActiveComponentPlan) → outcome_of (P.Plan r) ≡ outcome_in result
+pub found : (result : Result) (r : ActiveComponentPlan) → outcome_of (Ok r) ≡ outcome_in result
     → (p : Plan) × (result ≡ planned p) × (scalars_in r ≡ scalars_of p) × (r.used ≡ used_in p)
 found (planned p) r e =
     let selected : r.selected ≡ p.selected = cc in

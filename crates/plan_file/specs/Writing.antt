@@ -3,6 +3,9 @@
 use Rattle.std.specs.Prelude.{ℕ, ◌+◌, ◌*◌, List, [], ◌∷◌}
 use Rattle.definition.specs.Walk.{flag_word, bits_word}
 use Rattle.outputs.specs.declared.WordCounts.{WordCounts}
+use Rattle.outputs.specs.Stored.{Outputs}
+use Rattle.stored_plan.specs.Stored.{Kept}
+use Rattle.plan_file.specs.declared.Sections.{Sections}
 use Rattle.answer.specs.declared.ActiveComponentPlan.{ActiveComponentPlan}
 
 -- the eight scalar words of the planner's answer
@@ -10,6 +13,29 @@ abbrev pub scalars_in : ActiveComponentPlan → List ℕ
 scalars_in p =
     flag_word p.selected ∷ p.initial_components ∷ p.component_count ∷ bits_word p.estimated_dense_work ∷ bits_word p.estimated_component_work
     ∷ p.dense_peak_dimension ∷ p.component_peak_live_dimension ∷ p.component_allocated_dimension ∷ []
+
+-- the words that stand in the sections
+abbrev pub words_in : Sections → Outputs
+words_in s = record {
+  steps = s.steps.now;
+  merges = s.merges.now;
+  sizes = s.sizes.now;
+  rotations = s.rotations.now;
+  promotions = s.promotions.now;
+  measurements = s.measurements.now;
+}
+
+-- the sections with the answer's scalar words are what a file keeps
+abbrev pub kept_in : ActiveComponentPlan → Outputs → Kept
+kept_in p o = record {
+  steps = o.steps;
+  merges = o.merges;
+  sizes = o.sizes;
+  rotations = o.rotations;
+  promotions = o.promotions;
+  measurements = o.measurements;
+  scalars = scalars_in p;
+}
 
 -- the words of a file whose sections have these counts
 abbrev pub words_for : WordCounts → ℕ

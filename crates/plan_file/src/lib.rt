@@ -5,12 +5,27 @@
 ghost use Rattle.std.specs.Prelude.{◌≡◌, ◌+◌, ◌*◌, ◌≤◌, ◌<◌, ◌^◌, length};
 ghost use Rattle.definition.specs.Plan.{padded};
 ghost use Rattle.stored_plan.specs.Stored.{bytes_of};
-ghost use Rattle.plan_file.specs.Writing.{scalars_in, words_for, trailer_for};
+ghost use Rattle.outputs.specs.Stored.{lengths_of};
+ghost use Rattle.plan_file.specs.Writing.{words_in, kept_in, scalars_in, words_for, trailer_for};
 
 use answer::ActiveComponentPlan;
-use file_words::{clear_bytes, put_words};
+use file_words::put_words;
 use outputs::WordCounts;
+use outputs::buffers::fill_from;
 use rows::float_bits;
+
+// The words that a file keeps of each of the first six outputs.
+// Kept: no one generic struct with `StoredOutputs` and `WordCounts`, which have the same six names: one is written through, one is
+// read and one counts, so that their derives, methods and promises differ.
+#[derive(Clone, Copy, Debug, PartialEq, Eq)]
+pub struct Sections<'a> {
+    pub steps: &'a [u64],
+    pub merges: &'a [u64],
+    pub sizes: &'a [u64],
+    pub rotations: &'a [u64],
+    pub promotions: &'a [u64],
+    pub measurements: &'a [u64],
+}
 
 // The words of the eight scalar fields.
 fn scalar_words(plan: ActiveComponentPlan) -> [u64; 8]
@@ -74,43 +89,34 @@ fn trailer_words(used: WordCounts) -> [u64; 16]
 }
 
 // Writes the file of a plan with these words, and zeros behind it.
-pub fn write_file<'a>(
-    plan: ActiveComponentPlan,
-    steps: &'a [u64],
-    merges: &'a [u64],
-    sizes: &'a [u64],
-    rotations: &'a [u64],
-    promotions: &'a [u64],
-    measurements: &'a [u64],
-    file: &mut [u8],
-)
-    requires { 8 * (length steps.now + length merges.now + length sizes.now + length rotations.now + length promotions.now + length measurements.now + 24) ≤ length file.old }
-    ensures { file.new ≡ padded (length file.old) (bytes_of (record { steps = steps.now; merges = merges.now; sizes = sizes.now; rotations = rotations.now; promotions = promotions.now; measurements = measurements.now; scalars = scalars_in plan })) }
+pub fn write_file(plan: ActiveComponentPlan, sections: &Sections, file: &mut [u8])
+    requires { 8 * words_for (lengths_of (words_in sections.now)) ≤ length file.old }
+    ensures { file.new ≡ padded (length file.old) (bytes_of (kept_in plan (words_in sections.now))) }
 {
     let used = WordCounts {
-        steps: steps.len(),
-        merges: merges.len(),
-        sizes: sizes.len(),
-        rotations: rotations.len(),
-        promotions: promotions.len(),
-        measurements: measurements.len(),
+        steps: sections.steps.len(),
+        merges: sections.merges.len(),
+        sizes: sections.sizes.len(),
+        rotations: sections.rotations.len(),
+        promotions: sections.promotions.len(),
+        measurements: sections.measurements.len(),
     };
     let mut at: usize = 0;
-    put_words(steps, file, at);
-    at += steps.len();
-    put_words(merges, file, at);
-    at += merges.len();
-    put_words(sizes, file, at);
-    at += sizes.len();
-    put_words(rotations, file, at);
-    at += rotations.len();
-    put_words(promotions, file, at);
-    at += promotions.len();
-    put_words(measurements, file, at);
-    at += measurements.len();
+    put_words(sections.steps, file, at);
+    at += sections.steps.len();
+    put_words(sections.merges, file, at);
+    at += sections.merges.len();
+    put_words(sections.sizes, file, at);
+    at += sections.sizes.len();
+    put_words(sections.rotations, file, at);
+    at += sections.rotations.len();
+    put_words(sections.promotions, file, at);
+    at += sections.promotions.len();
+    put_words(sections.measurements, file, at);
+    at += sections.measurements.len();
     let scalars = scalar_words(plan);
     put_words(&scalars[..], file, at);
     let trailer = trailer_words(used);
     put_words(&trailer[..], file, at + 8);
-    clear_bytes(file, 8 * (at + 24));
+    fill_from(file, 8 * (at + 24), 0);
 }

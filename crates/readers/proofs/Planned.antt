@@ -2,7 +2,7 @@
 -- where the readers look for them, and a row's words are read as its kernel.
 use mathlib.Core.Path.{◌≡◌, refl, ap, ◌∙◌, subst}
 use mathlib.Core.Bool.{false}
-use Rattle.std.specs.Prelude.{Some}
+use Rattle.std.specs.Prelude.{Some, Ok}
 use Rattle.std.specs.Option.{option_map}
 use mathlib.Core.List.{List, [], ◌∷◌, ◌++◌}
 use Prim.Native.Nat.{ℕ, zero, suc, ◌*◌, ◌<◌}
@@ -31,7 +31,6 @@ use Rattle.outputs.specs.Outputs.{Buffers, lengths_of}
 use Rattle.component_plan.specs.Answer.{Answers}
 use Rattle.component_plan.specs.Demand.{plan_in}
 use Rattle.answer.specs.declared.ActiveComponentPlan.{ActiveComponentPlan}
-use Rattle.answer.specs.declared.Planned.TheVariants as P
 use Rattle.component_plan.proofs.Demand.{planned_pads}
 use Rattle.readers.specs.Reading.{part_of, row_at, step_in, rotation_in, measurement_in}
 use Rattle.readers.specs.Back.{StepIs, GivenBack}
@@ -161,7 +160,7 @@ walk_on limit index (suc m) s u (i ∷ is) whole = go (step limit s i) whole (λ
 -- ---- the law
 
 -- each record finds the definition's walk in a state, and the steps, rows and parts that are read from a call's buffers are what the walk gave for it there
-pub planned_back : (h : Head) (ws : List ℕ) (before after : Buffers) (r : ActiveComponentPlan) → Answers h ws before after (P.Plan r) → unread h ≡ false
+pub planned_back : (h : Head) (ws : List ℕ) (before after : Buffers) (r : ActiveComponentPlan) → Answers h ws before after (Ok r) → unread h ≡ false
     → (i : ℕ) → i < length (instructions_of ws)
     → (w : Walk) × (walk_from h.ceiling 0 (start h.initial_k) (take i (instructions_of ws)) ≡ finished w) × GivenBack h.ceiling w (get_or (instructions_of ws) i DormantBranch) i after
 unfolding plan_from

@@ -13,7 +13,7 @@ ghost use Rattle.records.specs.Pass.{within_one, action_number, floats_number, r
 use refusals::{Reason, Refusal};
 
 // The head of a program (01, section 2; the ceiling: 02, CR 4).
-#[derive(Clone, Copy)]
+#[derive(Clone, Copy, Debug, PartialEq, Eq)]
 pub struct Head {
     pub initial_k: u64,
     pub max_k: u64,
@@ -22,7 +22,7 @@ pub struct Head {
 }
 
 // A decoded record (01, section 2). An expectation is a measurement with flag 1.
-#[derive(Clone, Copy)]
+#[derive(Clone, Copy, Debug, PartialEq)]
 pub enum Instruction {
     Rotation {
         width: u64,

@@ -1,4 +1,6 @@
--- No reason has the number 0, which says elsewhere that nothing is refused: by cases.
+-- No reason has the number 0, which says elsewhere that nothing is refused, and an answer that `?` hands on is the one refusal that it tells of: by cases.
+use Rattle.std.specs.Prelude.{Result, Ok, Err, IsErrAnd}
+use mathlib.Core.Path.{◌≡◌, ap}
 use Prim.Native.Nat.{◌<◌}
 use native.Mathlib.Omega.{arith}
 use Rattle.refusals.specs.Numbers.{number_of}
@@ -30,3 +32,8 @@ positive File = omega arith
 positive Sections = omega arith
 positive Lengths = omega arith
 positive Ceiling = omega arith
+
+-- what `?` tells of an answer, that it is a refusal and which, as one equation
+pub err_is : {A E : Type 0} (r : Result A E) (x : E) → IsErrAnd r (λ e. e ≡ x) → r ≡ Err x
+err_is (Ok value) x same = absurd same
+err_is (Err e) x same = ap Err same

@@ -41,14 +41,14 @@ pub struct RowHead {
 }
 
 // A rotation's row.
-#[derive(Clone, Copy)]
+#[derive(Clone, Copy, Debug, PartialEq)]
 pub struct RotationRow {
     pub head: RowHead,
     pub kernel: PrecomputedActivePauliRotationKernel,
 }
 
 // A measurement's row, and whether the component has no coordinate left after it.
-#[derive(Clone, Copy)]
+#[derive(Clone, Copy, Debug, PartialEq)]
 pub struct MeasurementRow {
     pub head: RowHead,
     pub kernel: PrecomputedActivePauliMeasurementKernel,

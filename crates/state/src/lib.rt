@@ -21,8 +21,9 @@ pub struct State {
     pub count: usize,
 }
 
-// The numbers 0 to k - 1 in order, and zeros behind them.
-fn numbers_to(k: usize) -> [u16; 512]
+// The active order at the start: coordinates 0 to k - 1, and zeros behind them. The component that a coordinate begins in has
+// the same number.
+pub fn first_order(k: usize) -> [u16; 512]
     requires { k ≤ 512 }
     ensures in_order { InOrder k result }
     ensures small { Below512 result }
@@ -32,14 +33,6 @@ fn numbers_to(k: usize) -> [u16; 512]
         numbers[i] = i as u16;
     }
     numbers
-}
-
-// The active order at the start: coordinates 0 to k - 1.
-pub fn first_order(k: usize) -> [u16; 512]
-    requires { k ≤ 512 }
-    ensures { InOrder k result }
-{
-    numbers_to(k)
 }
 
 // A coordinate behind the last of the active order.
@@ -103,7 +96,7 @@ impl State {
         requires { k ≤ 512 }
         ensures { Started k result }
     {
-        let numbers = numbers_to(k);
+        let numbers = first_order(k);
         let mut size = [0u8; 512];
         size[..k].fill(1);
         State {
@@ -116,6 +109,7 @@ impl State {
     }
 
     // The members of the other sources go behind those of the first, in order.
+    #[tactic(auto, using(crate::proofs::Gathers::length_after))]
     pub fn join(mut self, sources: &[u64]) -> Self
         requires { BeforeJoin self sources.now }
         ensures { Joined self sources.now result }

@@ -1,21 +1,26 @@
 -- The answer of storing, case by case. Where planning gave a plan, its counts are those of the definition's plan, so that the front of each buffer is that plan's
 -- output and the file of these words is its file.
-use mathlib.Core.Path.{◌≡◌, refl, sym, ap, ◌∙◌, subst}
+use Rattle.std.specs.Prelude.{Result as Answered, Ok, Err}
+use mathlib.Core.Path.{◌≡◌, refl, sym, ap, ◌∙◌, subst, subst₂}
 use mathlib.Core.Bool.{Bool}
 use mathlib.Core.List.{List, []}
-use Prim.Native.Nat.{ℕ, ◌*◌, ◌/◌, ◌≤◌, ◌<◌}
+use Prim.Native.Nat.{ℕ, ◌+◌, ◌*◌, ◌/◌, ◌≤◌, ◌<◌}
 use native.Mathlib.Omega.{arith}
-use lib.ListN.{length, take}
+use lib.ListN.{length}
 use borrow.Author.Tests.{lt-ltb, le-ltb}
 use Rattle.records.specs.declared.Head.{Head}
 use Rattle.definition.specs.Plan.{Plan, Result, planned, refused_at, refuse_all, plan_of, padded, held_after}
 use Rattle.definition.proofs.Room.{plan_fits_in}
+use Rattle.definition.proofs.Words.{plan_counts}
 use Rattle.outputs.specs.declared.WordCounts.{WordCounts}
+use Rattle.outputs.specs.Stored.{Outputs}
+use Rattle.refusals.specs.Numbers.{number_of}
+use Rattle.refusals.specs.declared.Refusal.{Refusal}
+use Rattle.refusals.specs.declared.Reason.TheVariants.{Lengths as LengthsShort}
 use Rattle.outputs.specs.Outputs.{Buffers, lengths_of, SameLengths}
 use Rattle.lent.specs.Lent.{Held}
 use Rattle.answer.specs.declared.ActiveComponentPlan.{ActiveComponentPlan}
-use Rattle.answer.specs.declared.Planned.TheVariants as P
-use Rattle.answer.specs.Outcome.{used_in}
+use Rattle.answer.specs.Outcome.{outcome_of, used_in}
 use Rattle.component_plan.specs.Answer.{Answers}
 use Rattle.component_plan.proofs.Filled.{front_of_padded}
 use Rattle.component_plan.proofs.Refusals.{away, zeros_held}
@@ -23,25 +28,23 @@ use Rattle.stored_plan.specs.Stored.{Kept, scalars_of, kept_of, bytes_of, file_o
 use Rattle.plan_file.specs.Writing.{scalars_in, words_for}
 use Rattle.plan_file.proofs.Writing.{bytes_count}
 use Rattle.plan_file.proofs.Fields.{found}
-use Rattle.store.specs.declared.Stored.TheVariants as S
 use Rattle.store.specs.Storing as Storing
-use Rattle.store.specs.Storing.{fitting, store_of, outcome_in, Stores}
+use Rattle.store.specs.Storing.{fitting, store_of, outcome_in, Stores, UsedInside, used_of}
 
 -- ---- a plan that was answered
 
--- the used words in front of each buffer, and the scalar words
-abbrev pub front_of : ActiveComponentPlan → Buffers → Kept
-front_of r b = record {
-  steps = take r.used.steps b.steps;
-  merges = take r.used.merges b.merges;
-  sizes = take r.used.sizes b.sizes;
-  rotations = take r.used.rotations b.rotations;
-  promotions = take r.used.promotions b.promotions;
-  measurements = take r.used.measurements b.measurements;
-  scalars = scalars_in r;
+-- the six outputs among the buffers
+abbrev pub six : Buffers → Outputs
+six b = record {
+  steps = b.steps;
+  merges = b.merges;
+  sizes = b.sizes;
+  rotations = b.rotations;
+  promotions = b.promotions;
+  measurements = b.measurements;
 }
 
-module _ (h : Head) (ws : List ℕ) (before between : Buffers) (r : ActiveComponentPlan) (a : Answers h ws before between (P.Plan r)) where
+module _ (h : Head) (ws : List ℕ) (before between : Buffers) (r : ActiveComponentPlan) (a : Answers h ws before between (Ok r)) where
   abbrev it : (p : Plan) × (plan_of h ws (lengths_of before) ≡ planned p) × (scalars_in r ≡ scalars_of p) × (r.used ≡ used_in p)
   it = found (plan_of h ws (lengths_of before)) r a.answer
 
@@ -52,28 +55,20 @@ module _ (h : Head) (ws : List ℕ) (before between : Buffers) (r : ActiveCompon
   held = subst (λ (x : Result). Held x before between) it.1 a.held
 
   -- the counts are no more than the buffers' lengths
-  pub record Inside : Type 0 where
-    pub steps : r.used.steps ≤ length before.steps
-    pub merges : r.used.merges ≤ length before.merges
-    pub sizes : r.used.sizes ≤ length before.sizes
-    pub rotations : r.used.rotations ≤ length before.rotations
-    pub promotions : r.used.promotions ≤ length before.promotions
-    pub measurements : r.used.measurements ≤ length before.measurements
-
-  pub inside : Inside
-  inside =
+  pub inside : SameLengths before between → UsedInside r.used (six between)
+  inside same =
       let f = plan_fits_in h ws (lengths_of before) p it.1 in
       let u = it.3 in record {
-        steps = subst (λ (c : WordCounts). c.steps ≤ length before.steps) (sym u) f.steps;
-        merges = subst (λ (c : WordCounts). c.merges ≤ length before.merges) (sym u) f.merges;
-        sizes = subst (λ (c : WordCounts). c.sizes ≤ length before.sizes) (sym u) f.sizes;
-        rotations = subst (λ (c : WordCounts). c.rotations ≤ length before.rotations) (sym u) f.rotations;
-        promotions = subst (λ (c : WordCounts). c.promotions ≤ length before.promotions) (sym u) f.promotions;
-        measurements = subst (λ (c : WordCounts). c.measurements ≤ length before.measurements) (sym u) f.measurements;
+        steps = subst₂ (λ (c : WordCounts) (n : ℕ). c.steps ≤ n) (sym u) (sym same.steps) f.steps;
+        merges = subst₂ (λ (c : WordCounts) (n : ℕ). c.merges ≤ n) (sym u) (sym same.merges) f.merges;
+        sizes = subst₂ (λ (c : WordCounts) (n : ℕ). c.sizes ≤ n) (sym u) (sym same.sizes) f.sizes;
+        rotations = subst₂ (λ (c : WordCounts) (n : ℕ). c.rotations ≤ n) (sym u) (sym same.rotations) f.rotations;
+        promotions = subst₂ (λ (c : WordCounts) (n : ℕ). c.promotions ≤ n) (sym u) (sym same.promotions) f.promotions;
+        measurements = subst₂ (λ (c : WordCounts) (n : ℕ). c.measurements ≤ n) (sym u) (sym same.measurements) f.measurements;
       }
 
   -- what stands in front is what the file keeps
-  front_is : front_of r between ≡ kept_of p
+  front_is : used_of r (six between) ≡ kept_of p
   front_is =
       let u = it.3 in
       let steps = front_of_padded _ r.used.steps p.steps between.steps (ap (λ (c : WordCounts). c.steps) u) held.steps in
@@ -96,9 +91,16 @@ module _ (h : Head) (ws : List ℕ) (before between : Buffers) (r : ActiveCompon
   file_length : length (file_of p) ≡ 8 * words_for r.used
   file_length = bytes_count (kept_of p) refl ∙ ap (λ (c : WordCounts). 8 * words_for c) (sym it.3)
 
+  -- in words it is far below what a word holds
+  pub words_small : words_for r.used ≤ 24 * 1024 + 1047
+  words_small =
+      let few = (plan_counts h ws (lengths_of before) p it.1).few in
+      let most : words_for (used_in p) ≤ 24 * 1024 + 1047 = omega arith in
+      subst (λ (c : WordCounts). words_for c ≤ 24 * 1024 + 1047) (sym it.3) most
+
   -- a file too short for it
   pub stores_short : (after : Buffers) (file filed : List ℕ) → length file / 8 < words_for r.used → SameLengths before between → Held (refused_at 0 0) between after
-      → filed ≡ padded (length file) [] → Stores h ws before after file filed (S.Refused 23 0)
+      → filed ≡ padded (length file) [] → Stores h ws before after file filed (Err (record { reason = LengthsShort; index = 0 }))
   stores_short after file filed short same zeros cleared =
       let long = file_length in
       let refusal : store_of h ws (lengths_of before) (length file) ≡ refused_at 23 0 =
@@ -109,8 +111,8 @@ module _ (h : Head) (ws : List ℕ) (before between : Buffers) (r : ActiveCompon
       }
 
   -- and one that is long enough
-  pub stores_file : (file filed : List ℕ) → words_for r.used ≤ length file / 8 → filed ≡ padded (length file) (bytes_of (front_of r between))
-      → Stores h ws before between file filed (S.File (8 * words_for r.used))
+  pub stores_file : (file filed : List ℕ) → words_for r.used ≤ length file / 8 → filed ≡ padded (length file) (bytes_of (used_of r (six between)))
+      → Stores h ws before between file filed (Ok (8 * words_for r.used))
   stores_file file filed room written =
       let long = file_length in
       let plan : store_of h ws (lengths_of before) (length file) ≡ planned p =
@@ -122,12 +124,13 @@ module _ (h : Head) (ws : List ℕ) (before between : Buffers) (r : ActiveCompon
 
 -- ---- a refusal of planning
 
-pub stores_refused : (h : Head) (ws : List ℕ) (before after : Buffers) (number index : ℕ) (file filed : List ℕ)
-    → Answers h ws before after (P.Refused number index) → filed ≡ padded (length file) [] → Stores h ws before after file filed (S.Refused number index)
-stores_refused h ws before after number index file filed a cleared =
-    let refusal = away (plan_of h ws (lengths_of before)) number index a.answer in
-    let kept : store_of h ws (lengths_of before) (length file) ≡ refused_at number index = ap (fitting (length file)) refusal in record {
+pub stores_refused : (h : Head) (ws : List ℕ) (before after : Buffers) (r : Answered ActiveComponentPlan Refusal) (refusal : Refusal) (file filed : List ℕ)
+    → Answers h ws before after r → r ≡ Err refusal → filed ≡ padded (length file) [] → Stores h ws before after file filed (Err refusal)
+stores_refused h ws before after r refusal file filed a e cleared =
+    let number = number_of refusal.reason in
+    let gone = away (plan_of h ws (lengths_of before)) number refusal.index (sym (ap outcome_of e) ∙ a.answer) in
+    let kept : store_of h ws (lengths_of before) (length file) ≡ refused_at number refusal.index = ap (fitting (length file)) gone in record {
       answer = sym (ap outcome_in kept);
-      held = subst (λ (x : Result). Held x before after) (refusal ∙ sym kept) a.held;
+      held = subst (λ (x : Result). Held x before after) (gone ∙ sym kept) a.held;
       bytes = cleared ∙ sym (ap (held_after (length file) file_of) kept);
     }

@@ -1,5 +1,5 @@
 -- Reading what a call has stored: the bytes that the call left are the file of the definition's plan, and every accepted plan is read back from its file.
-use Rattle.std.specs.Prelude.{Result as Answered}
+use Rattle.std.specs.Prelude.{Result as Answered, Ok}
 use mathlib.Core.Path.{◌≡◌, refl, sym, ap, ◌∙◌, subst}
 use mathlib.Core.Bool.{Bool, true, false}
 use mathlib.Core.List.{List}
@@ -14,11 +14,11 @@ use Rattle.outputs.specs.Outputs.{Buffers}
 use Rattle.component_plan.proofs.Filled.{front_of_padded}
 use Rattle.stored_plan.specs.Stored.{kept_of, file_of}
 use Rattle.stored_plan.specs.Reading.{Read, restored, trailer_word, read_file}
-use Rattle.stored_plan.specs.Loading.{Outputs, Loads, Restored, outcome_in, lengths_of}
+use Rattle.outputs.specs.Stored.{Outputs, lengths_of}
+use Rattle.stored_plan.specs.Loading.{Loads, Restored, outcome_in}
 use Rattle.refusals.specs.declared.Reason.{Reason}
 use Rattle.stored_plan.specs.declared.StoredPlan.{StoredPlan}
 use Rattle.stored_plan.proofs.Plans.{plan_restored, own_length}
-use Rattle.store.specs.declared.Stored.TheVariants as S
 use Rattle.store.specs.Storing as Storing
 use Rattle.store.specs.Storing.{fitting, Stores}
 use Rattle.store.specs.Restoring.{GivesBack, Written}
@@ -55,7 +55,7 @@ gives_back p file before after r e a =
 
 -- for every accepted program, every buffer and every file that is long enough
 pub call_written : (h : Head) (ws : List ℕ) (before after : Buffers) (file filed : List ℕ) (n : ℕ) → h.initial_k < 2 ^ 64
-    → Stores h ws before after file filed (S.File n) → (p : Plan) × (plan_of h ws (Outputs.lengths_of before) ≡ planned p) × Written p filed n
+    → Stores h ws before after file filed (Ok n) → (p : Plan) × (plan_of h ws (Outputs.lengths_of before) ≡ planned p) × Written p filed n
 call_written h ws before after file filed n small a =
     let l = Outputs.lengths_of before in
     let it = stored_plan (length file) (plan_of h ws l) n a.answer in

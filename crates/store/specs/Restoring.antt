@@ -3,7 +3,8 @@ use Rattle.std.specs.Prelude.{ℕ, ◌≡◌, List, length, take, Result as Answ
 use Rattle.definition.specs.Plan.{Plan, padded}
 use Rattle.stored_plan.specs.Stored.{kept_of, scalars_of, file_of}
 use Rattle.stored_plan.specs.Reading.{trailer_word, counts_of}
-use Rattle.stored_plan.specs.Loading.{Outputs, Loads, given, outcome_of, lengths_of}
+use Rattle.outputs.specs.Stored.{Outputs, lengths_of}
+use Rattle.stored_plan.specs.Loading.{Loads, given, outcome_of}
 use Rattle.stored_plan.specs.Laws.{LongEnough}
 use Rattle.refusals.specs.declared.Reason.{Reason}
 use Rattle.stored_plan.specs.declared.StoredPlan.{StoredPlan}

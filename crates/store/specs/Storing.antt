@@ -1,12 +1,16 @@
 -- What the contract of `store` says: its answer, the seven buffers and every byte of the file. Written from 02, CR 2.
-use Rattle.std.specs.Prelude.{ℕ, ◌≡◌, List, ltb, length}
+use Rattle.std.specs.Prelude.{ℕ, ◌≡◌, ◌≤◌, List, ltb, length, take, Result as Answered, Ok, Err}
+use Rattle.refusals.specs.Numbers.{number_of}
+use Rattle.refusals.specs.declared.Refusal.{Refusal}
 use Rattle.records.specs.declared.Head.{Head}
 use Rattle.definition.specs.Plan.{Lengths, Result, planned, refused_at, refuse_all, plan_of, held_after}
 use Rattle.outputs.specs.Outputs.{Buffers, lengths_of}
+use Rattle.outputs.specs.declared.WordCounts.{WordCounts}
+use Rattle.outputs.specs.Stored.{Outputs}
 use Rattle.lent.specs.Lent.{Held}
-use Rattle.stored_plan.specs.Stored.{file_of}
-use Rattle.store.specs.declared.Stored.{Stored}
-use Rattle.store.specs.declared.Stored.TheVariants as S
+use Rattle.answer.specs.declared.ActiveComponentPlan.{ActiveComponentPlan}
+use Rattle.stored_plan.specs.Stored.{Kept, file_of}
+use Rattle.plan_file.specs.Writing.{kept_in}
 
 -- "Planning's refusals come first, then 23 for a short file buffer", of n bytes
 abbrev pub fitting : ℕ → Result → Result
@@ -23,9 +27,9 @@ pub data Outcome : Type 0 where
   turned_away : (number index : ℕ) → Outcome
 
 -- of the code's answer
-abbrev pub outcome_of : Stored → Outcome
-outcome_of (S.File n) = written n
-outcome_of (S.Refused number index) = turned_away number index
+abbrev pub outcome_of : Answered ℕ Refusal → Outcome
+outcome_of (Ok n) = written n
+outcome_of (Err refusal) = turned_away (number_of refusal.reason) refusal.index
 
 -- of the definition's result
 abbrev pub outcome_in : Result → Outcome
@@ -33,7 +37,29 @@ outcome_in (planned p) = written (length (file_of p))
 outcome_in (refused_at number index) = turned_away number index
 
 -- the answer, every buffer and every byte of the file are the definition's: "Unused bytes and words, and after a refusal all outputs and the writer's file, are zero"
-pub record Stores (h : Head) (ws : List ℕ) (before after : Buffers) (file filed : List ℕ) (r : Stored) : Type 0 where
+pub record Stores (h : Head) (ws : List ℕ) (before after : Buffers) (file filed : List ℕ) (r : Answered ℕ Refusal) : Type 0 where
   pub answer : outcome_of r ≡ outcome_in (store_of h ws (lengths_of before) (length file))
   pub held : Held (store_of h ws (lengths_of before) (length file)) before after
   pub bytes : filed ≡ held_after (length file) file_of (store_of h ws (lengths_of before) (length file))
+
+-- ---- what the function below `store` says
+
+-- the counts are no more than the outputs' lengths
+pub record UsedInside (used : WordCounts) (o : Outputs) : Type 0 where
+  pub steps : used.steps ≤ length o.steps
+  pub merges : used.merges ≤ length o.merges
+  pub sizes : used.sizes ≤ length o.sizes
+  pub rotations : used.rotations ≤ length o.rotations
+  pub promotions : used.promotions ≤ length o.promotions
+  pub measurements : used.measurements ≤ length o.measurements
+
+-- the words that a plan uses of the outputs, and its scalar words, are what its file keeps
+abbrev pub used_of : ActiveComponentPlan → Outputs → Kept
+used_of p o = kept_in p (record {
+  steps = take p.used.steps o.steps;
+  merges = take p.used.merges o.merges;
+  sizes = take p.used.sizes o.sizes;
+  rotations = take p.used.rotations o.rotations;
+  promotions = take p.used.promotions o.promotions;
+  measurements = take p.used.measurements o.measurements;
+})

@@ -2,110 +2,66 @@
 // bytes. Nothing is allocated, and no copy of the file is made.
 #![tactic(auto)]
 
-ghost use Rattle.definition.specs.Plan.{refused_at};
-ghost use Rattle.lent.specs.Lent.{Held};
-ghost use Rattle.store.specs.Storing.{Stores};
+ghost use Rattle.std.specs.Prelude.{◌≡◌, ◌*◌, ◌≤◌, length};
+ghost use Rattle.definition.specs.Plan.{padded};
+ghost use Rattle.outputs.specs.Outputs.{buffers_of};
+ghost use Rattle.outputs.specs.Stored.{outputs_of, SameOutputs};
+ghost use Rattle.stored_plan.specs.Stored.{bytes_of};
+ghost use Rattle.plan_file.specs.Writing.{words_for};
+ghost use Rattle.store.specs.Storing.{UsedInside, used_of, Stores};
 
-use answer::Planned;
+use answer::ActiveComponentPlan;
 use component_plan::build_active_component_plan;
-use file_words::clear_bytes;
 use lent::clear_all;
-use outputs::Outputs;
-use plan_file::{word_count, write_file};
+use outputs::StoredOutputs;
+use outputs::buffers::fill_from;
+use plan_file::{Sections, word_count, write_file};
 use records::Head;
+use refusals::{Reason, Refusal};
 
-// The answer: the file's length in bytes, or the first refusal's number and record index.
-#[derive(Clone, Copy)]
-pub enum Stored {
-    File { length: usize },
-    Refused { number: u64, index: u64 },
-}
-
-// Zeroes the seven outputs.
-fn clear_outputs(
-    steps: &mut [u64],
-    merges: &mut [u64],
-    sizes: &mut [u64],
-    rotations: &mut [u64],
-    promotions: &mut [u64],
-    measurements: &mut [u64],
-    groups: &mut [u64],
-)
-    ensures { Held (refused_at 0 0) (record { steps = steps.old; merges = merges.old; sizes = sizes.old; rotations = rotations.old; promotions = promotions.old; measurements = measurements.old; groups = groups.old }) (record { steps = steps.new; merges = merges.new; sizes = sizes.new; rotations = rotations.new; promotions = promotions.new; measurements = measurements.new; groups = groups.new }) }
+// Writes the file of a plan from the words that it uses of the outputs, and zeros behind it.
+fn write_used(plan: ActiveComponentPlan, out: &StoredOutputs, file: &mut [u8])
+    requires inside { UsedInside plan.used (outputs_of out.now) }
+    requires room { 8 * words_for plan.used ≤ length file.old }
+    ensures { file.new ≡ padded (length file.old) (bytes_of (used_of plan (outputs_of out.now))) }
 {
-    clear_all(&mut Outputs {
-        steps,
-        merges,
-        sizes,
-        rotations,
-        promotions,
-        measurements,
-        groups,
-    });
+    let used = plan.used;
+    let sections = Sections {
+        steps: &out.steps[..used.steps],
+        merges: &out.merges[..used.merges],
+        sizes: &out.sizes[..used.sizes],
+        rotations: &out.rotations[..used.rotations],
+        promotions: &out.promotions[..used.promotions],
+        measurements: &out.measurements[..used.measurements],
+    };
+    write_file(plan, &sections, file);
 }
 
-// Plans head and records into the seven outputs and stores the plan in the file, or gives the first refusal, after which
-// outputs and file are zero.
+// Plans head and records into the seven outputs and stores the plan in the file, whose length in bytes is given; or gives the
+// first refusal, after which outputs and file are zero.
 pub fn store(
     head: Head,
     records: &[u64],
-    steps: &mut [u64],
-    merges: &mut [u64],
-    sizes: &mut [u64],
-    rotations: &mut [u64],
-    promotions: &mut [u64],
-    measurements: &mut [u64],
+    out: &mut StoredOutputs,
     groups: &mut [u64],
     file: &mut [u8],
-) -> Stored
-    ensures { Stores head records.now (record { steps = steps.old; merges = merges.old; sizes = sizes.old; rotations = rotations.old; promotions = promotions.old; measurements = measurements.old; groups = groups.old }) (record { steps = steps.new; merges = merges.new; sizes = sizes.new; rotations = rotations.new; promotions = promotions.new; measurements = measurements.new; groups = groups.new }) file.old file.new result }
+) -> Result<usize, Refusal>
+    ensures same { SameOutputs out.old out.new }
+    ensures stores { Stores head records.now (buffers_of out.old groups.old) (buffers_of out.new groups.new) file.old file.new result }
 {
-    let planned = build_active_component_plan(
-        head,
-        records,
-        steps,
-        merges,
-        sizes,
-        rotations,
-        promotions,
-        measurements,
-        groups,
-    );
-    match planned {
-        Planned::Refused { number, index } => {
-            clear_bytes(file, 0);
-            Stored::Refused { number, index }
+    let plan = match build_active_component_plan(head, records, out, groups) {
+        Ok(plan) => plan,
+        Err(refusal) => {
+            fill_from(file, 0, 0);
+            return Err(refusal);
         }
-        Planned::Plan(plan) => {
-            let used = plan.used;
-            let words = word_count(used);
-            if file.len() / 8 < words {
-                clear_outputs(
-                    steps,
-                    merges,
-                    sizes,
-                    rotations,
-                    promotions,
-                    measurements,
-                    groups,
-                );
-                clear_bytes(file, 0);
-                return Stored::Refused {
-                    number: 23,
-                    index: 0,
-                };
-            }
-            write_file(
-                plan,
-                &steps[..used.steps],
-                &merges[..used.merges],
-                &sizes[..used.sizes],
-                &rotations[..used.rotations],
-                &promotions[..used.promotions],
-                &measurements[..used.measurements],
-                file,
-            );
-            Stored::File { length: 8 * words }
-        }
+    };
+    let words = word_count(plan.used);
+    if file.len() / 8 < words {
+        clear_all(out, groups);
+        fill_from(file, 0, 0);
+        return Err(Reason::Lengths.at(0));
     }
+    write_used(plan, out, file);
+    Ok(8 * words)
 }

@@ -49,7 +49,7 @@ pub unread_file : file_for (program 0 61 1 0 ([]))
     ∷ 8 ∷ 0 ∷ 0 ∷ 0 ∷ 0 ∷ 0 ∷ 0 ∷ 0
     ∷ 192 ∷ 0 ∷ 0 ∷ 0 ∷ 0 ∷ 0 ∷ 0 ∷ 0
     ∷ 1 ∷ 0 ∷ 0 ∷ 0 ∷ 0 ∷ 0 ∷ 0 ∷ 0 ∷ []
-unfolding plan_of file_of
+unfolding plan_of
 unread_file = refl
 
 -- a rotation with no coordinate active: a global phase
@@ -80,7 +80,7 @@ pub phase_file : file_for (program 0 8 0 1 (0 ∷ 0 ∷ 0 ∷ 0 ∷ 0 ∷ 0 ∷ 
     ∷ 8 ∷ 0 ∷ 0 ∷ 0 ∷ 0 ∷ 0 ∷ 0 ∷ 0
     ∷ 208 ∷ 0 ∷ 0 ∷ 0 ∷ 0 ∷ 0 ∷ 0 ∷ 0
     ∷ 1 ∷ 0 ∷ 0 ∷ 0 ∷ 0 ∷ 0 ∷ 0 ∷ 0 ∷ []
-unfolding plan_of file_of
+unfolding plan_of
 phase_file = refl
 
 -- a rotation of one coordinate: a row of 21 words
@@ -134,7 +134,7 @@ pub rotation_file : file_for (program 1 8 0 1 (0 ∷ 1 ∷ 2 ∷ 0 ∷ 0 ∷ 0 �
     ∷ 8 ∷ 0 ∷ 0 ∷ 0 ∷ 0 ∷ 0 ∷ 0 ∷ 0
     ∷ 136 ∷ 1 ∷ 0 ∷ 0 ∷ 0 ∷ 0 ∷ 0 ∷ 0
     ∷ 1 ∷ 0 ∷ 0 ∷ 0 ∷ 0 ∷ 0 ∷ 0 ∷ 0 ∷ []
-unfolding plan_of file_of
+unfolding plan_of
 rotation_file = refl
 
 -- a measurement that empties its component: a row of 19 words
@@ -186,7 +186,7 @@ pub measurement_file : file_for (program 1 8 0 1 (4 ∷ 1 ∷ 0 ∷ 1 ∷ 2 ∷ 
     ∷ 8 ∷ 0 ∷ 0 ∷ 0 ∷ 0 ∷ 0 ∷ 0 ∷ 0
     ∷ 120 ∷ 1 ∷ 0 ∷ 0 ∷ 0 ∷ 0 ∷ 0 ∷ 0
     ∷ 1 ∷ 0 ∷ 0 ∷ 0 ∷ 0 ∷ 0 ∷ 0 ∷ 0 ∷ []
-unfolding plan_of file_of
+unfolding plan_of
 measurement_file = refl
 
 -- ---- read

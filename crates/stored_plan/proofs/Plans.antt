@@ -17,9 +17,10 @@ use Rattle.definition.specs.Plan.{Lengths, Plan, planned, plan_of}
 use Rattle.definition.specs.Laws.{Words}
 use Rattle.definition.proofs.Words.{words_append, flag_word_lem, plan_words, works_fit, plan_counts}
 use Rattle.outputs.specs.declared.WordCounts.{WordCounts}
+use Rattle.outputs.specs.Stored.{outputs_short}
 use Rattle.file_words.proofs.Bytes.{length_bytes}
 use Rattle.stored_plan.specs.Stored.{Kept, kept_of, scalars_of, sections_of, trailer_of, words_of, file_of}
-use Rattle.stored_plan.specs.Reading.{restored, trailer_word, counts_of, odd_counts, outputs_short, counts_refused, read_file}
+use Rattle.stored_plan.specs.Reading.{restored, trailer_word, counts_of, odd_counts, counts_refused, read_file}
 use Rattle.stored_plan.specs.Laws.{LongEnough, SamePlan}
 use Rattle.stored_plan.specs.Loading.{number_of}
 use Rattle.stored_plan.proofs.Accepting.{accepted}

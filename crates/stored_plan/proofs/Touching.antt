@@ -52,10 +52,6 @@ module _ (word : ℕ → ℕ) (at end s : ℕ) (small : s < 7) where
       ap (λ (n : ℕ). touch at end (map word (numbers_from (2 * s) n))) left
       ∙ ap₂ (λ (p q : ℕ). eqb (word (2 * s)) at && touch (at + word p) end (map word (numbers_from q (14 - 2 * (s + 1))))) second third
 
-  -- a start out of place
-  pub turn_misplaced : (word (2 * s) ≡ at → ⊥) → touch at end (map word (numbers_from (2 * s) (14 - 2 * s))) ≡ false
-  turn_misplaced h = opened ∙ ap (λ (t : Bool). t && rest) (ne_eqb (word (2 * s)) at h)
-
   -- a count that passes the end
   pub turn_past : end < at + word (2 * s + 1) → touch at end (map word (numbers_from (2 * s) (14 - 2 * s))) ≡ false
   turn_past h =

@@ -1,54 +1,15 @@
 -- What the contract of `load` says: its answer, and the six outputs, for what reading the file gives.
-use Rattle.std.specs.Prelude.{ℕ, ◌+◌, ◌*◌, ◌≤◌, ◌≡◌, List, [], ◌∷◌, length, Result, Ok, Err}
+use Rattle.std.specs.Prelude.{ℕ, ◌+◌, ◌*◌, ◌≤◌, ◌≡◌, List, [], ◌∷◌, map, length, get_or, Result, Ok, Err}
+use Rattle.definition.specs.Lists.{numbers_from}
 use Rattle.definition.specs.Plan.{padded}
-use Rattle.file_words.specs.Words.{word_at}
 use Rattle.outputs.specs.declared.WordCounts.{WordCounts}
+use Rattle.outputs.specs.Stored.{Outputs, lengths_of}
 use Rattle.stored_plan.specs.Stored.{Kept}
-use Rattle.stored_plan.specs.Reading.{Read, restored, refused, counts_of, read_file}
+use Rattle.stored_plan.specs.Reading.{Read, restored, refused, trailer_word, counts_of, read_file}
 use Rattle.stored_plan.specs.declared.ScalarWords.{ScalarWords}
 use Rattle.refusals.specs.Numbers as Reasons
 use Rattle.refusals.specs.declared.Reason.{Reason}
 use Rattle.stored_plan.specs.declared.StoredPlan.{StoredPlan}
-use Rattle.stored_plan.specs.declared.StoredOutputs.{StoredOutputs}
-
--- the six lent outputs
-pub record Outputs : Type 0 where
-  pub steps : List ℕ
-  pub merges : List ℕ
-  pub sizes : List ℕ
-  pub rotations : List ℕ
-  pub promotions : List ℕ
-  pub measurements : List ℕ
-
-abbrev pub lengths_of : Outputs → WordCounts
-lengths_of b = record {
-  steps = length b.steps;
-  merges = length b.merges;
-  sizes = length b.sizes;
-  rotations = length b.rotations;
-  promotions = length b.promotions;
-  measurements = length b.measurements;
-}
-
--- what stands in the outputs that are lent
-abbrev pub outputs_of : StoredOutputs → Outputs
-outputs_of o = record {
-  steps = o.steps.now;
-  merges = o.merges.now;
-  sizes = o.sizes.now;
-  rotations = o.rotations.now;
-  promotions = o.promotions.now;
-  measurements = o.measurements.now;
-}
-
--- each output is the one that was lent, and not another in its place
-pub record SameOutputs (before after : StoredOutputs) : Type 0 where
-  pub steps : after.steps.ghost_name ≡ before.steps.ghost_name
-  pub merges : after.merges.ghost_name ≡ before.merges.ghost_name
-  pub sizes : after.sizes.ghost_name ≡ before.sizes.ghost_name
-  pub rotations : after.rotations.ghost_name ≡ before.rotations.ghost_name
-  pub promotions : after.promotions.ghost_name ≡ before.promotions.ghost_name
-  pub measurements : after.measurements.ghost_name ≡ before.measurements.ghost_name
 
 -- the eight words and the counts, or the refusal's number
 pub data Outcome : Type 0 where
@@ -96,20 +57,17 @@ abbrev pub number_of : Read → ℕ
 number_of (restored k) = 0
 number_of (refused number) = number
 
--- six counts of a trailer that begins at a word
-abbrev pub counts_at : List ℕ → ℕ → WordCounts
-counts_at file at = record {
-  steps = word_at file (at + 1);
-  merges = word_at file (at + 3);
-  sizes = word_at file (at + 5);
-  rotations = word_at file (at + 7);
-  promotions = word_at file (at + 9);
-  measurements = word_at file (at + 11);
-}
+-- the sixteen words of a file's trailer
+abbrev pub trailer_in : List ℕ → List ℕ
+trailer_in file = map (trailer_word file) (numbers_from 0 16)
 
--- the section to which word `pointer` of the trailer points lies in front of the trailer, and an output of n words has room for it
-pub record SectionFits (file : List ℕ) (at pointer n : ℕ) : Type 0 where
-  pub pointer_small : pointer ≤ 12
-  pub trailer : 8 * (at + 16) ≤ length file
-  pub inside : word_at file (at + pointer) + word_at file (at + (pointer + 1)) ≤ at
-  pub room : word_at file (at + (pointer + 1)) ≤ n
+-- the six counts in a trailer
+abbrev pub counts_in : List ℕ → WordCounts
+counts_in trailer = record {
+  steps = get_or trailer 1 0;
+  merges = get_or trailer 3 0;
+  sizes = get_or trailer 5 0;
+  rotations = get_or trailer 7 0;
+  promotions = get_or trailer 9 0;
+  measurements = get_or trailer 11 0;
+}

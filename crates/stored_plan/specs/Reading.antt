@@ -3,6 +3,7 @@
 use Rattle.std.specs.Prelude.{ℕ, ◌+◌, ◌-◌, ◌*◌, ◌/◌, ◌%◌, List, [], ◌∷◌, map, Bool, true, false, not, ◌&&◌, ◌||◌, eqb, ltb, length, get_or}
 use Rattle.definition.specs.Lists.{numbers_from}
 use Rattle.outputs.specs.declared.WordCounts.{WordCounts}
+use Rattle.outputs.specs.Stored.{outputs_short}
 use Rattle.file_words.specs.Words.{word_at, words_at}
 use Rattle.stored_plan.specs.Stored.{Kept}
 
@@ -71,12 +72,6 @@ abbrev pub odd_counts : WordCounts → ℕ → Bool
 odd_counts counts components =
     not (eqb (counts.steps % 2) 0) || not (eqb counts.sizes components)
     || not (eqb (counts.rotations % 21) 0) || not (eqb (counts.measurements % 19) 0)
-
--- "an output shorter than its section"
-abbrev pub outputs_short : WordCounts → WordCounts → Bool
-outputs_short lent counts =
-    ltb lent.steps counts.steps || ltb lent.merges counts.merges || ltb lent.sizes counts.sizes
-    || ltb lent.rotations counts.rotations || ltb lent.promotions counts.promotions || ltb lent.measurements counts.measurements
 
 -- 23, "a scalar count that is not 8" too; component_count is the third scalar field
 abbrev pub counts_refused : WordCounts → Kept → Bool

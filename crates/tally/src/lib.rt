@@ -130,7 +130,7 @@ impl Tally {
     // Before the first record, with k coordinates, each alone.
     #[tactic(auto, unfolding(crate::specs::Tally::start_tally))]
     pub fn start(k: u64) -> Self
-        requires { k ≤ 512 }
+        requires { 2 * k < 2 ^ 64 }
         ensures { result ≡ start_tally k }
     {
         Tally {
@@ -142,6 +142,7 @@ impl Tally {
     }
 
     // After a join.
+    // Kept: that the join fits the sums so far is a fact about both, which neither can hold; `rotated` and `measured` ask it too.
     #[tactic(auto, unfolding(crate::specs::Tally::joined_tally))]
     fn joined(mut self, join: Joining) -> Self
         requires { JoinFits self join }
@@ -169,6 +170,7 @@ impl Tally {
     }
 
     // After a rotation of k coordinates, and the join before it.
+    #[tactic(auto, unfolding(crate::specs::Tally::joined_tally))]
     pub fn rotated(self, join: Joining, k: u64) -> Self
         requires join_fits { JoinFits self join }
         requires row_fits { self.rotations + 1 < 2 ^ 64 }
@@ -204,6 +206,7 @@ impl Tally {
     }
 
     // After a measurement of k coordinates, the join before it and the removal.
+    #[tactic(auto, unfolding(crate::specs::Tally::joined_tally))]
     pub fn measured(self, join: Joining, k: u64) -> Self
         requires join_fits { JoinFits self join }
         requires row_fits { self.measurements + 1 < 2 ^ 64 }

@@ -1,3 +1,2 @@
 pub mod Patches
-pub mod Gathered
 pub mod Openings

@@ -3,8 +3,7 @@ use mathlib.Core.Path.{◌≡◌, ap, ◌∙◌}
 use mathlib.Core.List.{List, [], ◌++◌}
 use Prim.Native.Nat.{ℕ, ◌+◌, ◌≤◌}
 use native.Mathlib.Nat.{add-zero}
-use native.Mathlib.Omega.{arith}
-use lib.ListN.{length, take, drop, length-append, length-take, length-drop, take-append-drop}
+use lib.ListN.{length, take, drop, take-append-drop}
 use lib.Seq.{take_at, drop_at, length-take-le}
 use Rattle.outputs.specs.Buffers.{patch}
 
@@ -15,6 +14,3 @@ part_of_patch at n ws xs l h =
 
 pub patch_none : (at : ℕ) (xs : List ℕ) → patch at [] xs ≡ xs
 patch_none at xs = ap (λ (k : ℕ). take at xs ++ drop k xs) (add-zero at) ∙ take-append-drop at xs
-
-pub patch_length : (at : ℕ) (ws xs : List ℕ) → at + length ws ≤ length xs → length (patch at ws xs) ≡ length xs
-patch_length at ws xs h = simp (length-append, length-take, length-drop) (omega arith)

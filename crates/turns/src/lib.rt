@@ -56,6 +56,7 @@ fn gather<'a>(
 }
 
 // The join that a record makes, or none where it makes none, or refusal 11, 12 or 13.
+#[tactic(auto, using(crate::proofs::Patches::patch_none), unfolding(crate::specs::Turns::number_before, crate::specs::Turns::sources_before, positions::specs::Positions::sources_in))]
 pub fn open<'a>(
     instruction: Instruction,
     width: u64,
@@ -94,7 +95,6 @@ pub fn open<'a>(
 
 // The action of a Pauli on a component of a size, by the places of its positions.
 fn local_action(place: &[u8; 512], pauli: Pauli, width: u64, size: u64) -> ActivePauliAction
-    requires narrow { width < 64 }
     requires x_fits { local_of (pauli.x % 2 ^ width) place.now < 2 ^ 64 }
     requires z_fits { local_of (pauli.z % 2 ^ width) place.now < 2 ^ 64 }
     ensures { result ≡ local_action_of place.now pauli.x pauli.z pauli.phase width size }
@@ -112,6 +112,16 @@ fn head_of(join: Joining, tally: Tally) -> RowHead
         component: join.target,
         merge_offset: tally.merges as u64,
         merge_count: join.count as u64,
+    }
+}
+
+// The step of a record whose row has this number.
+fn step_of(kind: StepKind, row: usize) -> Step
+    ensures { result ≡ record { kind = kind; payload = row } }
+{
+    Step {
+        kind,
+        payload: row as u64,
     }
 }
 
@@ -133,15 +143,11 @@ pub fn rotate(
     ensures { Settled (rotation_answer turn.limit place.now pauli.x pauli.z pauli.phase angle.value angle.sine angle.cosine turn.width join.size) result
         (λ next. RotationDone turn.width turn.index join tally next steps.old sizes.old rotations.old steps.new sizes.new rotations.new) }
 {
-    let limit = turn.limit;
     let action = local_action(place, pauli, turn.width, join.size);
-    let kernel = PrecomputedActivePauliRotationKernel::new(action, pauli.phase, angle, limit)?;
+    let kernel = PrecomputedActivePauliRotationKernel::new(action, pauli.phase, angle, turn.limit)?;
     let head = head_of(join, tally);
     put(rotations, tally.rotations, RotationRow { head, kernel });
-    let step = Step {
-        kind: StepKind::Rotation,
-        payload: tally.rotations as u64,
-    };
+    let step = step_of(StepKind::Rotation, tally.rotations);
     put(steps, turn.index, step);
     raise_size(sizes, join.target as usize, join.size);
     Ok(tally.rotated(join, turn.width))
@@ -186,15 +192,13 @@ pub fn measure<'a>(
         (λ next. MeasurementDone turn.width turn.index join tally next steps.old sizes.old measurements.old steps.new sizes.new measurements.new) }
 {
     check_pivot(component, pivot, join, turn)?;
-    let limit = turn.limit;
     let action = local_action(place, pauli, turn.width, join.size);
-    let at = pivot as usize;
-    let local = u64::from(place[at]);
+    let local = u64::from(place[pivot as usize]);
     let kernel = PrecomputedActivePauliMeasurementKernel::with_pivot(
         action,
         pauli.phase,
         local,
-        limit,
+        turn.limit,
     )?;
     let measured = MeasurementRow {
         head: head_of(join, tally),
@@ -202,10 +206,7 @@ pub fn measure<'a>(
         deactivated: join.size == 1,
     };
     put(measurements, tally.measurements, measured);
-    let step = Step {
-        kind: StepKind::Measurement,
-        payload: tally.measurements as u64,
-    };
+    let step = step_of(StepKind::Measurement, tally.measurements);
     put(steps, turn.index, step);
     raise_size(sizes, join.target as usize, join.size);
     Ok(tally.measured(join, turn.width))
@@ -226,10 +227,7 @@ pub fn promote(
 {
     let row = tally.promotions;
     promotions[row] = next as u64;
-    let step = Step {
-        kind: StepKind::Promotion,
-        payload: row as u64,
-    };
+    let step = step_of(StepKind::Promotion, row);
     put(steps, turn.index, step);
     sizes[next] = 1;
     tally.promoted(turn.width)

@@ -1,10 +1,11 @@
 -- How one record's turn ends by the answers on its way: an answer that goes out with `?` is a refusal for the same reason, and what is not missing is there. By cases.
-use Rattle.std.specs.Prelude.{Option, Some, None, Result, Ok, Err, IsErr, IsErrAnd, IsSome}
-use mathlib.Core.Path.{◌≡◌, refl, sym, ap, ◌∙◌}
+use Rattle.std.specs.Prelude.{Option, Some, None, Result, IsErr, IsErrAnd, IsSome}
+use mathlib.Core.Path.{◌≡◌, refl, sym, subst}
 use mathlib.Core.List.{List}
 use Prim.Native.Nat.{ℕ}
 use Rattle.refusals.specs.Numbers.{number_of}
 use Rattle.refusals.specs.declared.Reason.{Reason}
+use Rattle.refusals.proofs.Laws.{err_is}
 use Rattle.records.specs.Record.{instructions_of}
 use Rattle.definition.specs.Walk.{start, walk_from, stopped}
 use Rattle.state.specs.declared.State.{State}
@@ -14,8 +15,7 @@ use Rattle.walk.specs.Looping.{TurnEnds}
 
 pub turn_stops : (limit k : ℕ) (ws : List ℕ) (i : ℕ) (o : List ℕ) (s : State) (t : Tally) (c : Buffers) (r : Result Unit Reason) (reason : Reason)
     → IsErr r × IsErrAnd r (λ e. e ≡ reason) → walk_from limit 0 (start k) (instructions_of ws) ≡ stopped (number_of reason) i → TurnEnds limit k ws i r o s t c
-turn_stops limit k ws i o s t c (Ok done) reason h e = absurd h.1
-turn_stops limit k ws i o s t c (Err given) reason h e = e ∙ ap (λ (q : Reason). stopped (number_of q) i) (sym h.1)
+turn_stops limit k ws i o s t c r reason h e = subst (λ (x : Result Unit Reason). TurnEnds limit k ws i x o s t c) (sym (err_is r reason h.1)) e
 
 pub is_there : {A : Type 0} (m : Option A) → (m ≡ None → ⊥) → IsSome m
 is_there None h = absurd (h refl)

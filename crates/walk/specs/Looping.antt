@@ -47,11 +47,12 @@ pub record Looping (limit k : ℕ) (ws : List ℕ) (i : ℕ) (o : List ℕ) (s :
 
 -- ---- one record
 
--- where a record's turn begins
-pub record Standing (limit : ℕ) (ws : List ℕ) (i : ℕ) (o : List ℕ) (s : State) (t : Tally) (c : Buffers) : Type 0 where
+-- where a record's turn begins, whatever the groups
+pub record Standing (limit : ℕ) (ws : List ℕ) (i : ℕ) (o : List ℕ) (s : State) (t : Tally) (c : List ℕ → Buffers) : Type 0 where
   pub next : i < length ws / 8
   pub k : ℕ
-  pub looping : Looping limit k ws i o s t c
+  pub groups : List ℕ
+  pub looping : Looping limit k ws i o s t (c groups)
 
 -- where it ends: one record more, or the definition's walk stops at this one
 abbrev pub TurnEnds : ℕ → ℕ → List ℕ → ℕ → Result Unit Reason → List ℕ → State → Tally → Buffers → Type 0

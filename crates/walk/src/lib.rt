@@ -2,10 +2,11 @@
 // order stands beside it and is changed in place.
 #![tactic(auto)]
 
-ghost use Rattle.std.specs.Prelude.{◌≡◌, ◌+◌, ◌*◌, ◌<◌, ◌≤◌, ℕ, [], ◌∷◌, length, set};
+ghost use Rattle.std.specs.Prelude.{◌≡◌, ◌+◌, ◌*◌, ◌<◌, ◌≤◌, ℕ, List, [], ◌∷◌, length, set};
 ghost use Rattle.records.specs.Record.{instructions_of};
 ghost use Rattle.definition.specs.Walk.{start, walk_from};
-ghost use Rattle.outputs.specs.Outputs.{buffers_of, SameOutputs};
+ghost use Rattle.outputs.specs.Outputs.{buffers_of};
+ghost use Rattle.outputs.specs.Stored.{SameOutputs};
 ghost use Rattle.outputs.specs.Buffers.{patch};
 ghost use Rattle.rows.specs.Steps.{kind_number};
 ghost use Rattle.turns.specs.Turns.{Settled, JoinedFits, rotation_answer, RotationDone, measurement_answer, MeasurementDone, PromotionFits, PromotionDone};
@@ -14,7 +15,7 @@ ghost use Rattle.walk.specs.Walking.{Walkable, WalkEnds};
 ghost use Rattle.walk.specs.Looping.{Looping, Standing, TurnEnds, Joins, JoinMade, Leaves, Measured};
 
 use kernels::active::Angle;
-use outputs::Outputs;
+use outputs::StoredOutputs;
 use outputs::buffers::{fill_ones, write_counts, write_members};
 use records::{Instruction, read};
 use refusals::{Reason, Refusal};
@@ -102,7 +103,7 @@ fn rotation(
     turn: Turn,
     place: &[u8; 512],
     tally: &mut Tally,
-    out: &mut Outputs,
+    out: &mut StoredOutputs,
 ) -> Result<(), Reason>
     requires joined_fits { JoinedFits place.now pauli.x pauli.z turn.width turn.index join tally.old out.old.steps.now out.old.sizes.now }
     requires row_room { 21 * tally.old.rotations + 21 ≤ length out.old.rotations.now }
@@ -131,7 +132,7 @@ fn promotion(
     order: &mut [u16; 512],
     state: &mut State,
     tally: &mut Tally,
-    out: &mut Outputs,
+    out: &mut StoredOutputs,
 )
     requires fits { PromotionFits state.old.count turn.width turn.index tally.old out.old.steps.now out.old.sizes.now out.old.promotions.now }
     requires room { (state.old.width < 512) × (state.old.count < 512) }
@@ -156,7 +157,7 @@ fn measurement(
     order: &mut [u16; 512],
     state: &mut State,
     tally: &mut Tally,
-    out: &mut Outputs,
+    out: &mut StoredOutputs,
 ) -> Result<(), Reason>
     requires joined_fits { JoinedFits state.old.place pauli.x pauli.z turn.width turn.index join tally.old out.old.steps.now out.old.sizes.now }
     requires row_room { 19 * tally.old.measurements + 19 ≤ length out.old.measurements.now }
@@ -186,6 +187,7 @@ fn measurement(
 }
 
 // One record: its join, and its rotation, promotion or measurement; or the reason why it is refused.
+// Kept: the order, the state and the sums are three parameters and no struct, since most of what a turn calls changes one of them.
 fn turn(
     limit: u64,
     records: &[u64],
@@ -193,12 +195,12 @@ fn turn(
     order: &mut [u16; 512],
     state: &mut State,
     tally: &mut Tally,
-    out: &mut Outputs,
+    out: &mut StoredOutputs,
 ) -> Result<(), Reason>
     requires { Standing limit records.now index order.old state.old tally.old (buffers_of out.old) }
     ensures same { SameOutputs out.old out.new }
-    ensures step { (k : ℕ) → Looping limit k records.now index order.old state.old tally.old (buffers_of out.old)
-        → TurnEnds limit k records.now index result order.new state.new tally.new (buffers_of out.new) }
+    ensures step { (k : ℕ) (groups : List ℕ) → Looping limit k records.now index order.old state.old tally.old (buffers_of out.old groups)
+        → TurnEnds limit k records.now index result order.new state.new tally.new (buffers_of out.new groups) }
 {
     let instruction = read(records, index);
     let turn = Turn {
@@ -252,11 +254,12 @@ pub fn walk(
     limit: u64,
     initial_k: usize,
     records: &[u64],
-    out: &mut Outputs,
+    out: &mut StoredOutputs,
+    groups: &mut [u64],
 ) -> Result<Summary, Refusal>
-    requires { Walkable initial_k records.now (buffers_of out.old) }
+    requires { Walkable initial_k records.now (buffers_of out.old groups.old) }
     ensures same { SameOutputs out.old out.new }
-    ensures walked { WalkEnds (walk_from limit 0 (start initial_k) (instructions_of records.now)) result (buffers_of out.new) }
+    ensures walked { WalkEnds (walk_from limit 0 (start initial_k) (instructions_of records.now)) result (buffers_of out.new groups.new) }
 {
     let mut order = first_order(initial_k);
     let mut state = State::start(initial_k);
@@ -270,14 +273,14 @@ pub fn walk(
         }
     }
     let count = state.count;
-    let starts = write_counts(&state.size, count, out.groups);
+    let starts = write_counts(&state.size, count, groups);
     write_members(
         starts.start,
         &order,
         &state.component,
         &state.place,
         state.width,
-        out.groups,
+        groups,
     );
     Ok(Summary {
         tally,

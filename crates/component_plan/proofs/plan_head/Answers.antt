@@ -11,8 +11,8 @@ pub returns-in_err-peak-clause-answers : goal.returns-in_err-peak-clause-answers
 returns-in_err-peak-clause-answers c =
     let a = c.args in
     let reason = c.in_err-peak.field-0.0 in
-    filled_error _ (buffers_of a.out.now) (buffers_of a.out.now) c.from_residual.result (record { reason = reason; index = 0 }) c.from_residual.ensures.0 c.from_residual.ensures.1
-    (plan_headless a.head a.records.now (lengths_of (buffers_of a.out.now)) (number_of reason) c.in_err-peak.ensures)
+    filled_error _ (buffers_of a.out.now a.groups.now) (buffers_of a.out.now a.groups.now) c.from_residual.result (record { reason = reason; index = 0 }) c.from_residual.ensures.0 c.from_residual.ensures.1
+    (plan_headless a.head a.records.now (lengths_of (buffers_of a.out.now a.groups.now)) (number_of reason) c.in_err-peak.ensures)
 
 pub returns-then-head-lt8-clause-answers : goal.returns-then-head-lt8-clause-answers
 returns-then-head-lt8-clause-answers c =
@@ -23,14 +23,14 @@ returns-then-head-lt8-clause-answers c =
       | then-head-lt8-via-then-head-lt8 w ↦ unread_small a.head w.if-head-lt8.true
       | then-head-lt8-via-else-head-lt8+then-head-ne0 w ↦ unread_expected a.head w.if-head-ne0.true
     ] in
-    filled_planned _ (buffers_of a.out.now) (buffers_of c.clear_all.new.out) (unread_plan a.head.initial_k peak) (Ok c.unread_plan.result)
-    (plan_unread a.head a.records.now (lengths_of (buffers_of a.out.now)) peak c.in_ok-peak.ensures head_unread)
+    filled_planned _ (buffers_of a.out.now a.groups.now) (buffers_of c.clear_all.new.out c.clear_all.new.groups) (unread_plan a.head.initial_k peak) (Ok c.unread_plan.result)
+    (plan_unread a.head a.records.now (lengths_of (buffers_of a.out.now a.groups.now)) peak c.in_ok-peak.ensures head_unread)
     (unread_same a.head.initial_k peak c.unread_plan.result c.unread_plan.ensures)
-    (unread_held a.head.initial_k peak 0 0 (buffers_of a.out.now) (buffers_of c.clear_all.new.out) c.clear_all.ensures.cleared)
+    (unread_held a.head.initial_k peak 0 0 (buffers_of a.out.now a.groups.now) (buffers_of c.clear_all.new.out c.clear_all.new.groups) c.clear_all.ensures.cleared)
 
 pub returns-clause-answers : goal.returns-clause-answers
 returns-clause-answers c =
     let a = c.args in
     filled_same
-    (plan_is_read a.head a.records.now (lengths_of (buffers_of a.out.now)) c.in_ok-peak.peak c.in_ok-peak.ensures (unread_neither a.head c.if-head-lt8.false c.if-head-ne0.false))
+    (plan_is_read a.head a.records.now (lengths_of (buffers_of a.out.now a.groups.now)) c.in_ok-peak.peak c.in_ok-peak.ensures (unread_neither a.head c.if-head-lt8.false c.if-head-ne0.false))
     c.plan_read.ensures.answers

@@ -10,6 +10,7 @@ use Rattle.definition.specs.Walk.{start, walk_from}
 use Rattle.definition.specs.Plan.{after_walk}
 use Rattle.records.specs.Record.{instructions_of}
 use Rattle.outputs.specs.Outputs.{buffers_of, lengths_of}
+use Rattle.outputs.proofs.Parts.{all_lengths}
 use Rattle.lent.specs.Lent.{lent_number}
 use Rattle.component_plan.proofs.Refusals.{lent_refused, lent_passed, walk_stops, filled_error}
 use Rattle.component_plan.proofs.Finished.{read_walk, counts_fit, sizes_inside, sizes_below, filled}
@@ -24,8 +25,8 @@ returns-in_err-check_lent-clause-answers c =
     let a = c.args in
     let reason = c.in_err-check_lent.field-0.0 in
     let number = number_of reason in
-    filled_error _ (buffers_of a.out.now) (buffers_of a.out.now) c.from_residual.result (record { reason = reason; index = 0 }) c.from_residual.ensures.0 c.from_residual.ensures.1
-    (lent_refused a.head a.records.now (lengths_of (buffers_of a.out.now)) a.dense_peak number
+    filled_error _ (buffers_of a.out.now a.groups.now) (buffers_of a.out.now a.groups.now) c.from_residual.result (record { reason = reason; index = 0 }) c.from_residual.ensures.0 c.from_residual.ensures.1
+    (lent_refused a.head a.records.now (lengths_of (buffers_of a.out.now a.groups.now)) a.dense_peak number
     (lent_told a.head.initial_k (length a.records.now) number c.buffers_short-short.ensures (c.in_err-check_lent.ensures))
     (λ e. absurd (omega (arith, positive reason, e))))
 
@@ -34,9 +35,9 @@ returns-in_err-check_records-clause-answers c =
     let a = c.args in
     let refusal = c.in_err-check_records.field-0.0 in
     let lent = lent_told a.head.initial_k (length a.records.now) 0 c.buffers_short-short.ensures (c.in_ok-check_lent.ensures) in
-    filled_error _ (buffers_of a.out.now) (buffers_of a.out.now) c.from_residual-in_err-check_records.result refusal
+    filled_error _ (buffers_of a.out.now a.groups.now) (buffers_of a.out.now a.groups.now) c.from_residual-in_err-check_records.result refusal
     c.from_residual-in_err-check_records.ensures.0 c.from_residual-in_err-check_records.ensures.1
-    (lent_passed a.head a.records.now (lengths_of (buffers_of a.out.now)) a.dense_peak 0 lent refl _ (sym (c.in_err-check_records.ensures)))
+    (lent_passed a.head a.records.now (lengths_of (buffers_of a.out.now a.groups.now)) a.dense_peak 0 lent refl _ (sym (c.in_err-check_records.ensures)))
 
 pub returns-in_err-done-clause-answers : goal.returns-in_err-done-clause-answers
 returns-in_err-done-clause-answers c =
@@ -44,36 +45,36 @@ returns-in_err-done-clause-answers c =
     let refusal = c.in_err-done.field-0.0 in
     let lent = lent_told a.head.initial_k (length a.records.now) 0 c.buffers_short-short.ensures (c.in_ok-check_lent.ensures) in
     let passed : record_pass a.head.initial_k a.records.now ≡ Passed = sym (c.in_ok-check_records.ensures) in
-    filled_error _ (buffers_of a.out.now) (buffers_of c.walk.new.out) c.from_residual-in_err-done.result refusal
+    filled_error _ (buffers_of a.out.now a.groups.now) (buffers_of c.walk.new.out c.walk.new.groups) c.from_residual-in_err-done.result refusal
     c.from_residual-in_err-done.ensures.0 c.from_residual-in_err-done.ensures.1
-    (read_walk a.head a.dense_peak a.records.now (buffers_of a.out.now) lent passed
+    (read_walk a.head a.dense_peak a.records.now (buffers_of a.out.now a.groups.now) lent passed
     ∙ ap (after_walk a.head.initial_k a.dense_peak)
-    (walk_stops (walk_from a.head.ceiling 0 (start a.head.initial_k) (instructions_of a.records.now)) refusal (buffers_of c.walk.new.out) c.in_err-done.ensures.walked))
+    (walk_stops (walk_from a.head.ceiling 0 (start a.head.initial_k) (instructions_of a.records.now)) refusal (buffers_of c.walk.new.out c.walk.new.groups) c.in_err-done.ensures.walked))
 
 pub clear_rest-requires : goal.clear_rest-requires
 clear_rest-requires c =
     let a = c.args in
     let lent = lent_told a.head.initial_k (length a.records.now) 0 c.buffers_short-short.ensures c.in_ok-check_lent.ensures in
-    counts_fit a.head a.dense_peak a.records.now (buffers_of a.out.now) lent (sym c.in_ok-check_records.ensures) (buffers_of c.walk.new.out) c.in_ok-done.done c.in_ok-done.ensures.walked
+    counts_fit a.head a.dense_peak a.records.now (buffers_of a.out.now a.groups.now) lent (sym c.in_ok-check_records.ensures) (buffers_of c.walk.new.out c.walk.new.groups) c.in_ok-done.done c.in_ok-done.ensures.walked
 
 pub allocated_in-all-requires : goal.allocated_in-all-requires
 allocated_in-all-requires c =
     let a = c.args in
     let lent = lent_told a.head.initial_k (length a.records.now) 0 c.buffers_short-short.ensures c.in_ok-check_lent.ensures in
     record {
-      inside = sizes_inside a.head a.dense_peak a.records.now (buffers_of a.out.now) lent (sym c.in_ok-check_records.ensures) (buffers_of c.walk.new.out) c.in_ok-done.done c.in_ok-done.ensures.walked (buffers_of c.clear_rest.new.out) c.clear_rest.ensures.same.lengths;
-      below = sizes_below a.head a.dense_peak a.records.now (buffers_of a.out.now) lent (sym c.in_ok-check_records.ensures) (buffers_of c.walk.new.out) c.in_ok-done.done c.in_ok-done.ensures.walked c.in_ok-done.ensures.same.lengths (buffers_of c.clear_rest.new.out) c.clear_rest.ensures.cleared;
+      inside = sizes_inside a.head a.dense_peak a.records.now (buffers_of a.out.now a.groups.now) lent (sym c.in_ok-check_records.ensures) (buffers_of c.walk.new.out c.walk.new.groups) c.in_ok-done.done c.in_ok-done.ensures.walked (buffers_of c.clear_rest.new.out c.clear_rest.new.groups) (all_lengths c.walk.new.out c.clear_rest.new.out c.walk.new.groups c.clear_rest.new.groups c.clear_rest.ensures.same.lengths c.clear_rest.auto.groups);
+      below = sizes_below a.head a.dense_peak a.records.now (buffers_of a.out.now a.groups.now) lent (sym c.in_ok-check_records.ensures) (buffers_of c.walk.new.out c.walk.new.groups) c.in_ok-done.done c.in_ok-done.ensures.walked (all_lengths a.out.now c.walk.new.out a.groups.now c.walk.new.groups c.in_ok-done.ensures.same.lengths c.walk.auto.groups) (buffers_of c.clear_rest.new.out c.clear_rest.new.groups) c.clear_rest.ensures.cleared;
     }
 
 pub plan_of-requires : goal.plan_of-requires
 plan_of-requires c =
     let a = c.args in
     let lent = lent_told a.head.initial_k (length a.records.now) 0 c.buffers_short-short.ensures c.in_ok-check_lent.ensures in
-    counts_fit a.head a.dense_peak a.records.now (buffers_of a.out.now) lent (sym c.in_ok-check_records.ensures) (buffers_of c.walk.new.out) c.in_ok-done.done c.in_ok-done.ensures.walked
+    counts_fit a.head a.dense_peak a.records.now (buffers_of a.out.now a.groups.now) lent (sym c.in_ok-check_records.ensures) (buffers_of c.walk.new.out c.walk.new.groups) c.in_ok-done.done c.in_ok-done.ensures.walked
 
 pub returns-clause-answers : goal.returns-clause-answers
 returns-clause-answers c =
     let a = c.args in
     let lent = lent_told a.head.initial_k (length a.records.now) 0 c.buffers_short-short.ensures c.in_ok-check_lent.ensures in
-    filled a.head a.dense_peak a.records.now (buffers_of a.out.now) lent (sym c.in_ok-check_records.ensures) (buffers_of c.walk.new.out) c.in_ok-done.done c.in_ok-done.ensures.walked c.in_ok-done.ensures.same.lengths (buffers_of c.clear_rest.new.out) c.clear_rest.ensures.cleared
+    filled a.head a.dense_peak a.records.now (buffers_of a.out.now a.groups.now) lent (sym c.in_ok-check_records.ensures) (buffers_of c.walk.new.out c.walk.new.groups) c.in_ok-done.done c.in_ok-done.ensures.walked (all_lengths a.out.now c.walk.new.out a.groups.now c.walk.new.groups c.in_ok-done.ensures.same.lengths c.walk.auto.groups) (buffers_of c.clear_rest.new.out c.clear_rest.new.groups) c.clear_rest.ensures.cleared
     c.allocated_in-all.result c.plan_of.result c.allocated_in-all.ensures c.plan_of.ensures

@@ -25,6 +25,3 @@ returns-then-bits-gt9218868437227405312 c =
     let bits = c.args.bits in
     nan_same (of_bits binary64 bits)
     (subst T (sym (sym (nan_bits_is binary64 bits) ∙ nan_bits_above binary64 bits ∙ lt-ltb _ _ c.if-bits-gt9218868437227405312.true)) tt)
-
-pub returns-else-bits-gt9218868437227405312 : goal.returns-else-bits-gt9218868437227405312
-returns-else-bits-gt9218868437227405312 c = refl

@@ -36,13 +36,13 @@ pub measurement-requires-clause-leaves : goal.measurement-requires-clause-leaves
 measurement-requires-clause-leaves c = remove_asks c.requires.looping c.requires.next c.read-instruction.ensures c.in_ok-made.ensures c.in-Measurement.is c.unwrap-join.ensures
 
 pub returns-in_err-made-clause-step : goal.returns-in_err-made-clause-step
-returns-in_err-made-clause-step c = λ k lo.
+returns-in_err-made-clause-step c = λ k groups lo.
     let some = positive c.in_err-made.field-0.0 in
     turn_stops _ _ _ _ _ _ _ _ _ c.in_err-made.field-0.0 c.from_residual.ensures
     (opening_stops lo c.requires.next c.read-instruction.ensures _ c.in_err-made.ensures.opened.number (λ e. omega arith))
 
 pub returns-in_err-rotation-in-Rotation-clause-step : goal.returns-in_err-rotation-in-Rotation-clause-step
-returns-in_err-rotation-in-Rotation-clause-step c = λ k lo.
+returns-in_err-rotation-in-Rotation-clause-step c = λ k groups lo.
     turn_stops _ _ _ _ _ _ _ _ _ c.in_err-rotation-in-Rotation.field-0.0 c.from_residual-in_err-rotation-in-Rotation.ensures
     (rotate_stops lo c.requires.next c.read-instruction.ensures c.in_ok-made.ensures c.in-Rotation.is c.in-Some.is _ c.in_err-rotation-in-Rotation.ensures.settled)
 
@@ -51,26 +51,26 @@ unwrap-join-requires c =
     is_there _ (measurement_joins c.requires.looping c.requires.next c.read-instruction.ensures c.in_ok-made.ensures c.in-Measurement.is)
 
 pub returns-in_err-measurement-in-Measurement-clause-step : goal.returns-in_err-measurement-in-Measurement-clause-step
-returns-in_err-measurement-in-Measurement-clause-step c = λ k lo.
+returns-in_err-measurement-in-Measurement-clause-step c = λ k groups lo.
     turn_stops _ _ _ _ _ _ _ _ _ c.in_err-measurement-in-Measurement.field-0.0 c.from_residual-in_err-measurement-in-Measurement.ensures
     (measure_stops lo c.requires.next c.read-instruction.ensures c.in_ok-made.ensures c.in-Measurement.is c.unwrap-join.ensures _ c.in_err-measurement-in-Measurement.ensures.settled)
 
 pub returns-in_ok-rotation-in-Rotation-clause-step : goal.returns-in_ok-rotation-in-Rotation-clause-step
-returns-in_ok-rotation-in-Rotation-clause-step c = λ k lo.
+returns-in_ok-rotation-in-Rotation-clause-step c = λ k groups lo.
     let went = c.in_ok-rotation-in-Rotation.ensures in
     rotate_goes lo c.requires.next c.read-instruction.ensures c.in_ok-made.ensures c.in-Rotation.is c.in-Some.is went.settled.0 _ _ went.settled.1 went.settled.2 went.kept.0 went.kept.1 went.kept.2 (search rules)
 
 pub returns-in_default-made-clause-step : goal.returns-in_default-made-clause-step
-returns-in_default-made-clause-step c = λ k lo.
+returns-in_default-made-clause-step c = λ k groups lo.
     ignored_goes lo c.requires.next c.read-instruction.ensures c.in_ok-made.ensures c.in-Rotation.is c.in_default-made.is _ _ c.ignored.ensures c.put_kind.ensures refl refl refl refl refl (search rules)
 
 pub returns-in-Promotion-clause-step : goal.returns-in-Promotion-clause-step
-returns-in-Promotion-clause-step c = λ k lo.
+returns-in-Promotion-clause-step c = λ k groups lo.
     let went = c.promotion.ensures in
     promote_goes lo c.requires.next c.read-instruction.ensures c.in_ok-made.ensures c.in-Promotion.is _ _ _ _ went.done went.grown.0 went.grown.1 went.kept.0 went.kept.1 went.kept.2 (search rules)
 
 pub returns-in_ok-measurement-in-Measurement-clause-step : goal.returns-in_ok-measurement-in-Measurement-clause-step
-returns-in_ok-measurement-in-Measurement-clause-step c = λ k lo.
+returns-in_ok-measurement-in-Measurement-clause-step c = λ k groups lo.
     let went = c.in_ok-measurement-in-Measurement.ensures in
     let all = went.settled.2 in
     measure_goes lo c.requires.next c.read-instruction.ensures c.in_ok-made.ensures c.in-Measurement.is c.unwrap-join.ensures went.settled.0 _ _ _ _ went.settled.1 all.done all.removed all.closed went.kept.0 went.kept.2 went.kept.1 (search rules)
@@ -78,6 +78,6 @@ returns-in_ok-measurement-in-Measurement-clause-step c = λ k lo.
 pub returns-in_default : goal.returns-in_default
 returns-in_default c = record {
   same = search rules;
-  step = λ k lo.
+  step = λ k groups lo.
       plain_goes lo c.requires.next c.read-instruction.ensures c.in_ok-made.ensures c.in_default.not-Rotation c.in_default.not-Promotion c.in_default.not-Measurement _ c.put_kind-in_default.ensures refl refl refl refl refl (search rules);
 }

@@ -6,15 +6,15 @@ use Rattle.state.proofs.State.start.Goals as goal
 
 pub returns : goal.returns
 returns c = record {
-  component = c.numbers_to-numbers.ensures.in_order.entry;
+  component = c.first_order-numbers.ensures.in_order.entry;
   place = λ p h. get_or-replicate 512 p 0 0 (omega arith);
   size = λ p h. grind (arith, common_steps, c.fill.ensures.after);
   width = refl;
   count = refl;
   shape = record {
-    components = c.numbers_to-numbers.ensures.in_order.long;
+    components = c.first_order-numbers.ensures.in_order.long;
     places = search rules;
     sizes = grind (arith, common_steps, c.fill.ensures.after);
-    small = c.numbers_to-numbers.ensures.small;
+    small = c.first_order-numbers.ensures.small;
   };
 }

@@ -1,14 +1,8 @@
 -- `tally::Tally::rotated` meets its contract: each field is the definition's, by what `joined`, `exact_exp2` and the powers ensure.
-use Rattle.std.proofs.Common.{ap, arith}
-use Rattle.tally.specs.declared.Tally.{Tally}
 use lib.Ieee.{of_bits}
 use Rattle.tally.specs.Tally.{joined_tally, rotated_tally}
 use native.Mathlib.Nat.{add-mod-mod}
 use Rattle.tally.proofs.Tally.rotated.Goals as goal
-
-pub overflow_add-next-2 : goal.overflow_add-next-2
-unfolding joined_tally
-overflow_add-next-2 c = omega (arith, ap (λ (t : Tally). t.rotations) c.joined-next.ensures, c.requires.row_fits)
 
 pub returns : goal.returns
 unfolding joined_tally of_bits rotated_tally
