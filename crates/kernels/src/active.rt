@@ -129,6 +129,7 @@ fn rotation_coefficient(even_phase: Complex64, sine: f64) -> Complex64
 }
 
 // Whether every pair rotates by a real coefficient whose sign flips within the pair.
+// Kept: here and below the phase exponent goes beside the action, which has the two phases as floats and, as in the Rust, no exponent.
 fn can_rotate_real_pair_flip(action: ActivePauliAction, phase: u64) -> bool
     ensures { result ≡ pair_flip action phase }
 {

@@ -14,9 +14,9 @@ use answer::ActiveComponentPlan;
 use component_plan::build_active_component_plan;
 use outputs::StoredOutputs;
 use outputs::buffers::fill_from;
+use plan_file::scalar_words;
 use records::Head;
 use refusals::Refusal;
-use rows::float_bits;
 use tally::WholeWorks;
 
 // 0 for an answer, and else the refusal's number.
@@ -59,22 +59,11 @@ fn whole_words(works: WholeWorks) -> [u64; 5]
 fn plan_words(plan: ActiveComponentPlan) -> [u64; 14]
     ensures { result ≡ words_of (outcome_of (Ok plan)) }
 {
-    let [mark, dense, component, quotient, remainder] = whole_words(plan.whole_works);
+    let fields = scalar_words(plan);
+    let whole = whole_words(plan.whole_works);
     [
-        0,
-        u64::from(plan.selected),
-        plan.initial_components,
-        plan.component_count,
-        float_bits(plan.estimated_dense_work),
-        float_bits(plan.estimated_component_work),
-        plan.dense_peak_dimension,
-        plan.component_peak_live_dimension,
-        plan.component_allocated_dimension,
-        mark,
-        dense,
-        component,
-        quotient,
-        remainder,
+        0, fields[0], fields[1], fields[2], fields[3], fields[4], fields[5], fields[6], fields[7],
+        whole[0], whole[1], whole[2], whole[3], whole[4],
     ]
 }
 
@@ -89,7 +78,7 @@ fn write_result(planned: Result<ActiveComponentPlan, Refusal>, res: &mut [u64])
 }
 
 // Plans a program into the seven buffers and the result; 0, or the refusal's number.
-// Kept: C's words and slices, one by one.
+// Kept: C's words and slices, one by one, so that `midvokt_c` only hands them on and `replay` tries what C calls.
 #[tactic(auto, using(crate::proofs::Laid::plan_told))]
 pub fn midvokt_plan(
     initial_k: u64,

@@ -50,7 +50,7 @@ fn load_words(loaded: Result<StoredPlan, Reason>) -> [u64; 15]
 }
 
 // Plans a program into the seven buffers and stores the plan in the file; 0, or the refusal's number.
-// Kept: C's words and slices, one by one.
+// Kept: C's words and slices, one by one, so that `midvokt_c` only hands them on.
 #[tactic(auto, using(crate::proofs::Laid::store_told))]
 pub fn midvokt_store(
     initial_k: u64,
@@ -90,7 +90,7 @@ pub fn midvokt_store(
 }
 
 // Reads a stored plan into the six buffers and the result; 0, or the refusal's number.
-// Kept: C's words and slices, one by one.
+// Kept: C's words and slices, one by one, so that `midvokt_c` only hands them on.
 pub fn midvokt_load(
     file: &[u8],
     steps: &mut [u64],

@@ -51,6 +51,7 @@ pub struct Starts {
 
 // Writes the member count of each component that has members, in the order of their numbers, with room for the members
 // behind each.
+#[tactic(auto, using(crate::proofs::Groups::counts_room))]
 pub fn write_counts(size: &[u8; 512], count: usize, groups: &mut [u64]) -> Starts
     requires fits { CountsFit (take count size.now) groups.old }
     requires few { count ≤ 512 }

@@ -8,7 +8,7 @@ ghost use Rattle.outputs.specs.Stored.{outputs_of, lengths_of, outputs_short, Sa
 
 use crate::buffers::fill_from;
 
-// The six lent outputs that a stored plan has too.
+// The six lent outputs that a stored plan has too. What lends by `&mut` is neither copied nor compared, so nothing more is derived.
 // Kept: planning's seventh buffer, the groups, is lent beside it. In a struct that holds this struct the six lose what their
 // owner knows of them after a call (tried), and in one struct of all seven zeroing and lengths would stand twice.
 #[derive(Drop)]

@@ -28,7 +28,7 @@ pub struct Sections<'a> {
 }
 
 // The words of the eight scalar fields.
-fn scalar_words(plan: ActiveComponentPlan) -> [u64; 8]
+pub fn scalar_words(plan: ActiveComponentPlan) -> [u64; 8]
     ensures { result ≡ scalars_in plan }
 {
     [

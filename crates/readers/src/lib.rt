@@ -164,10 +164,7 @@ pub fn read<R: FromWords>(rows: &[u64], number: u64) -> Option<R>
 fn rotation_or_zero(rotations: &[u64], i: usize) -> RotationRow
     ensures { result ≡ rotation_or_zero rotations.now i }
 {
-    match read(rotations, i as u64) {
-        Some(row) => row,
-        None => RotationRow::from_words(&[0; 21]),
-    }
+    read(rotations, i as u64).unwrap_or(RotationRow::from_words(&[0; 21]))
 }
 
 // Fills a lent slice of row structs: struct i has the values of row i, and a struct past the last row is all zero.

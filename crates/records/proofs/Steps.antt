@@ -5,10 +5,18 @@ use mathlib.Core.List.{List}
 use Prim.Native.Nat.{ℕ, zero, suc, ◌+◌, ◌/◌, ◌≤◌, ◌<◌}
 use native.Mathlib.Numerals.{add-one}
 use native.Mathlib.Nat.{suc-ne-zero}
+use native.Mathlib.Omega.{arith}
 use lib.ListN.{length, drop, drop_of_length-le}
-use borrow.Author.Tests.{eq-eqb, ne_eqb, ltb-true}
+use borrow.Author.Tests.{ne_eqb, ltb-true}
 use mathlib.Core.Bool.{Bool, true, false, cond}
-use lib.Dec.{ltb}
+use lib.Dec.{ltb, eqb}
+use Rattle.std.specs.Prelude.{Result, Ok}
+use Rattle.std.specs.Result.{result_eq}
+use Rattle.refusals.specs.declared.Reason.{Reason}
+use Rattle.records.specs.contracts.KindPartialEq.TheImpl.{eq-value}
+use Rattle.records.specs.declared.Kind.{Kind}
+use Rattle.records.specs.declared.Kind.TheVariants.{Promotion}
+use Rattle.records.specs.Kinds.{kind_in}
 use Rattle.records.specs.Record.{kind, record_at, records_of}
 use Rattle.records.specs.Pass.{Checked, Passed, Refused, number_of, promotion_number, coordinates_after, refused_or, pass_from, record_pass}
 use Rattle.records.proofs.Words.{records_length, records_drop}
@@ -35,11 +43,25 @@ pub passed : (n i : ℕ) (rest : Checked) → n ≡ 0 → refused_or n i rest �
 unfolding refused_or
 passed n i rest h = ap (λ (m : ℕ). refused_or m i rest) h
 
-pub after_promotion : (c : ℕ) (r : List ℕ) → kind r ≡ 1 → coordinates_after c r ≡ c + 1
-after_promotion c r h = ap (λ (b : Bool). cond b (suc c) c) (eq-eqb (kind r) 1 h) ∙ sym (add-one c)
+-- the code's test of a kind, by the kind's number
+test_of : (F : Reason → Reason → Bool) (n : ℕ) → result_eq eq-value.it F (kind_in n) (Ok Promotion) ≡ eqb n 1
+test_of F zero = refl
+test_of F (suc zero) = refl
+test_of F (suc (suc zero)) = refl
+test_of F (suc (suc (suc zero))) = refl
+test_of F (suc (suc (suc (suc zero)))) = refl
+test_of F (suc (suc (suc (suc (suc zero))))) = refl
+test_of F (suc (suc (suc (suc (suc (suc n)))))) = sym (ne_eqb _ 1 (λ e. absurd (omega (arith, e))))
 
-pub after_other : (c : ℕ) (r : List ℕ) → (kind r ≡ 1 → ⊥) → coordinates_after c r ≡ c
-after_other c r h = ap (λ (b : Bool). cond b (suc c) c) (ne_eqb (kind r) 1 h)
+pub promotion_told : (F : Reason → Reason → Bool) (r : List ℕ) {n : ℕ} {k : Result Kind Reason} {b : Bool}
+    → b ≡ result_eq eq-value.it F k (Ok Promotion) → k ≡ kind_in n → n ≡ kind r → b ≡ eqb (kind r) 1
+promotion_told F r told e same = told ∙ ap (λ (k : Result Kind Reason). result_eq eq-value.it F k (Ok Promotion)) (e ∙ ap kind_in same) ∙ test_of F (kind r)
+
+pub after_promotion : (c : ℕ) (r : List ℕ) → eqb (kind r) 1 ≡ true → coordinates_after c r ≡ c + 1
+after_promotion c r h = ap (λ (b : Bool). cond b (suc c) c) h ∙ sym (add-one c)
+
+pub after_other : (c : ℕ) (r : List ℕ) → eqb (kind r) 1 ≡ false → coordinates_after c r ≡ c
+after_other c r h = ap (λ (b : Bool). cond b (suc c) c) h
 
 -- a choice between 0 and another number that came out as 0
 pub cond-true : (b : Bool) (n : ℕ) → cond b 0 (suc n) ≡ 0 → b ≡ true

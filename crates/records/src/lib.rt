@@ -22,6 +22,7 @@ pub struct Head {
 }
 
 // A decoded record (01, section 2). An expectation is a measurement with flag 1.
+// Kept: a Pauli's parts and an angle's are fields of their own, as 01 lists them and the definition matches on them.
 #[derive(Clone, Copy, Debug, PartialEq)]
 pub enum Instruction {
     Rotation {
@@ -261,7 +262,7 @@ pub fn check_records(words: &[u64], initial_k: u64) -> Result<(), Refusal>
         if let Err(reason) = check_record(fields, coordinates) {
             return Err(reason.at(i));
         }
-        if word(fields, 0) == 1 {
+        if Kind::try_from(word(fields, 0)) == Ok(Kind::Promotion) {
             coordinates += 1;
         }
     }

@@ -84,11 +84,12 @@ fn holds(buffer: &[u64], used: &[u64]) -> bool
 }
 
 // Refuses a head by which the records or a buffer are too long.
+// Kept: the head is an array: its twelve words are the call's first four, the number of record words and the seven lengths, in order.
 fn check_lengths(head: &[u64; 12]) -> Result<(), ReplayError>
     ensures { OnOk result (HasRoom head.now) }
 {
-    for i in 4..12 {
-        if LONGEST < head[i] {
+    for length in &head[4..] {
+        if LONGEST < *length {
             return Err(ReplayError::TooLong);
         }
     }

@@ -5,13 +5,14 @@
 
 ghost use Rattle.std.specs.Prelude.{◌≡◌, ◌≤◌, ◌<◌, length, set};
 ghost use Rattle.positions.specs.Positions.{Below512};
-ghost use Rattle.state.specs.Steps.{InOrder, Closed, Started, Joinable, gathering, sizes_after, BeforeJoin, Joined, promoted, BeforeRemoval, Removed};
+ghost use Rattle.state.specs.Steps.{InOrder, Closed, Started, Joinable, gathering, sizes_after, BeforeJoin, Joined, BeforePromotion, promoted, BeforeRemoval, Removed};
 ghost use Rattle.state.specs.Steps as Steps;
 
 #[derive(Clone, Copy, Debug, PartialEq, Eq)]
 pub struct State {
     // by active position: the component of the coordinate there, and its index among that component's members
-    // Kept: two arrays, since a struct of both at each position takes 512 bytes more, and the walk's stack has three states
+    // Kept: two arrays, since most of what reads the state reads one of them alone, and a struct of both at each position takes
+    // 512 bytes more in each of the three states that the walk's stack has
     pub component: [u16; 512],
     pub place: [u8; 512],
     // by component number: how many members it has, 0 once joined away or emptied
@@ -23,6 +24,7 @@ pub struct State {
 
 // The active order at the start: coordinates 0 to k - 1, and zeros behind them. The component that a coordinate begins in has
 // the same number.
+// Kept: an array and no vector: components, places and order have one length, the state's width, which would stand twice.
 pub fn first_order(k: usize) -> [u16; 512]
     requires { k ≤ 512 }
     ensures in_order { InOrder k result }
@@ -129,7 +131,7 @@ impl State {
     // A new coordinate, alone in a new component, both with the next number.
     #[tactic(auto, unfolding(crate::specs::Steps::promoted))]
     pub fn promote(mut self) -> Self
-        requires { (self.width < 512) × (self.count < 512) }
+        requires { BeforePromotion self }
         ensures { result ≡ promoted self }
     {
         self.component[self.width] = self.count as u16;

@@ -25,9 +25,6 @@ power_gone k h =
     let same : k - 64 + 64 ≡ k = omega arith in
     ap (λ (n : ℕ). n % 2 ^ 64) (sym (ap (λ (n : ℕ). 2 ^ n) same) ∙ pow-add 2 (k - 64) 64) ∙ mul-mod_left (2 ^ (k - 64)) (2 ^ 64)
 
-pub double_gone : (k : ℕ) → 63 ≤ k → 2 * 2 ^ k % 2 ^ 64 ≡ 0
-double_gone k h = let same : 2 * 2 ^ k ≡ 2 ^ (k + 1) = sym (pow-add 2 k 1 ∙ omega arith) in ap (λ (n : ℕ). n % 2 ^ 64) same ∙ power_gone (k + 1) (omega arith)
-
 -- sums so far that are kept modulo 2 ^ 64, with more added
 pub kept_sum : (kept full more : ℕ) → kept ≡ full % 2 ^ 64 → (kept + more) % 2 ^ 64 ≡ (full + more) % 2 ^ 64
 kept_sum kept full more e = ap (λ (n : ℕ). (n + more) % 2 ^ 64) e ∙ mod-add-mod full (2 ^ 64) more

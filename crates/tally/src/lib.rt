@@ -76,11 +76,10 @@ fn power_low(k: u64) -> u64
 }
 
 // Twice 2 to the power of k, modulo 2^64.
-#[tactic(auto, using(crate::proofs::Sums::double_gone))]
 fn double_low(k: u64) -> u64
     ensures { result ≡ 2 * 2 ^ k % 2 ^ 64 }
 {
-    if k < 63 { power(k + 1) } else { 0 }
+    power_low(k).wrapping_mul(2)
 }
 
 // The dimension that a component has without one of its members.

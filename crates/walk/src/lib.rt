@@ -10,7 +10,7 @@ ghost use Rattle.outputs.specs.Stored.{SameOutputs};
 ghost use Rattle.outputs.specs.Buffers.{patch};
 ghost use Rattle.rows.specs.Steps.{kind_number};
 ghost use Rattle.turns.specs.Turns.{Settled, JoinedFits, rotation_answer, RotationDone, measurement_answer, MeasurementDone, PromotionFits, PromotionDone};
-ghost use Rattle.state.specs.Steps.{BeforeJoin, Joined, promoted, BeforeRemoval, Removed};
+ghost use Rattle.state.specs.Steps.{BeforeJoin, Joined, BeforePromotion, promoted, BeforeRemoval, Removed};
 ghost use Rattle.walk.specs.Walking.{Walkable, WalkEnds};
 ghost use Rattle.walk.specs.Looping.{Looping, Standing, TurnEnds, Joins, JoinMade, Leaves, Measured};
 
@@ -44,7 +44,7 @@ fn join_state(state: &mut State, sources: &[u64])
 
 // Promotes in place.
 fn promote_state(state: &mut State)
-    requires { (state.old.width < 512) × (state.old.count < 512) }
+    requires { BeforePromotion state.old }
     ensures { state.new ≡ promoted state.old }
 {
     *state = state.promote();
@@ -96,6 +96,8 @@ fn put_kind(steps: &mut [u64], index: usize, kind: StepKind)
 }
 
 // Makes a rotation behind its join, or gives refusal 14.
+// Kept: the call of `rotate` stands in a function of its own, since the sums that it gives by value take a place on the stack of
+// the function that makes the call.
 fn rotation(
     pauli: Pauli,
     angle: Angle,
@@ -135,7 +137,7 @@ fn promotion(
     out: &mut StoredOutputs,
 )
     requires fits { PromotionFits state.old.count turn.width turn.index tally.old out.old.steps.now out.old.sizes.now out.old.promotions.now }
-    requires room { (state.old.width < 512) × (state.old.count < 512) }
+    requires room { BeforePromotion state.old }
     ensures same { SameOutputs out.old out.new }
     ensures kept { (out.new.merges.now ≡ out.old.merges.now) × (out.new.rotations.now ≡ out.old.rotations.now) × (out.new.measurements.now ≡ out.old.measurements.now) }
     ensures done { PromotionDone state.old.count turn.width turn.index tally.old tally.new out.old.steps.now out.old.sizes.now out.old.promotions.now out.new.steps.now out.new.sizes.now out.new.promotions.now }

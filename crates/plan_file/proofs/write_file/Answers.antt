@@ -12,28 +12,10 @@ use Rattle.plan_file.specs.Writing.{words_in, kept_in, scalars_in}
 use Rattle.plan_file.proofs.Writing.{none_written, section_written, rest_cleared, trailer_is, words_written}
 use Rattle.plan_file.proofs.write_file.Goals as goal
 
-pub overflow_add-at-5 : goal.overflow_add-at-5
-overflow_add-at-5 c = omega (arith, c)
-
-pub overflow_add-at-6 : goal.overflow_add-at-6
-overflow_add-at-6 c = omega (arith, c)
-
-pub trailer_words-trailer-requires : goal.trailer_words-trailer-requires
-trailer_words-trailer-requires c = omega (arith, c)
-
-pub overflow_add-at-7 : goal.overflow_add-at-7
-overflow_add-at-7 c = omega (arith, c)
-
 pub put_words-requires-8 : goal.put_words-requires-8
 put_words-requires-8 c =
     let long = ap length c.trailer_words-trailer.ensures in
     omega (arith, long, c, c.put_words.auto.file, c.put_words-2.auto.file, c.put_words-3.auto.file, c.put_words-4.auto.file, c.put_words-5.auto.file, c.put_words-6.auto.file, c.put_words-7.auto.file)
-
-pub overflow_add-at-8 : goal.overflow_add-at-8
-overflow_add-at-8 c = omega (arith, c)
-
-pub overflow_mul-at : goal.overflow_mul-at
-overflow_mul-at c = omega (arith, c)
 
 pub returns : goal.returns
 returns c =
