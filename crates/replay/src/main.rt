@@ -84,7 +84,8 @@ fn holds(buffer: &[u64], used: &[u64]) -> bool
 }
 
 // Refuses a head by which the records or a buffer are too long.
-// Kept: the head is an array: its twelve words are the call's first four, the number of record words and the seven lengths, in order.
+// Kept: the head is an array: it is read in one loop, and its last eight words are held to the limit in another; a struct of
+// twelve fields would need both written out, field by field.
 fn check_lengths(head: &[u64; 12]) -> Result<(), ReplayError>
     ensures { OnOk result (HasRoom head.now) }
 {

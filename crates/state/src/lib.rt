@@ -24,7 +24,8 @@ pub struct State {
 
 // The active order at the start: coordinates 0 to k - 1, and zeros behind them. The component that a coordinate begins in has
 // the same number.
-// Kept: an array and no vector: components, places and order have one length, the state's width, which would stand twice.
+// Kept: an array and no vector, since the library has no heap. How much of it counts is the state's width, as for components and
+// places, and a length of its own would say that again.
 pub fn first_order(k: usize) -> [u16; 512]
     requires { k ≤ 512 }
     ensures in_order { InOrder k result }

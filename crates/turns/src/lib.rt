@@ -36,7 +36,8 @@ pub struct Turn {
 }
 
 // The join of the components that the masks reach, whose sources are written into the merge list from the offset on.
-// Kept: here, below and in `positions` the state's components and sizes are lent one by one, since these crates do not know the state.
+// Kept: here, below and in `positions`, on which `state` builds, components and sizes are lent one by one: they are all that is
+// read of the state's five fields, and a struct of the two would be made for the call.
 fn gather<'a>(
     component: &'a [u16; 512],
     size: &'a [u8; 512],
@@ -128,8 +129,8 @@ fn step_of(kind: StepKind, row: usize) -> Step
 
 // Writes the row, the step and the longest size of a rotation, or gives refusal 14.
 // Kept: of the lent buffers, only the three that it writes, so that its contract need not say that the others are as they were. And
-// Pauli, join and turn are three structs, which the record, its sources and the walk give; one of all three would be made for a call,
-// and could not hold `joined_fits`, which speaks of the places, the sums and the buffers too.
+// Here, in `measure` and in the walk Pauli, join and turn are three structs, which the record, its sources and the walk give; one of
+// all three would be made for a call, and could not hold `joined_fits`, which speaks of the places, the sums and the buffers too.
 pub fn rotate(
     pauli: Pauli,
     angle: Angle,

@@ -96,8 +96,8 @@ fn put_kind(steps: &mut [u64], index: usize, kind: StepKind)
 }
 
 // Makes a rotation behind its join, or gives refusal 14.
-// Kept: the call of `rotate` stands in a function of its own, since the sums that it gives by value take a place on the stack of
-// the function that makes the call.
+// Kept: a function of its own: in `turn`, the longest function, the call's nine arguments would stand a level deeper, and the
+// sums that `rotate` gives by value would take a place on its stack, under all that it calls.
 fn rotation(
     pauli: Pauli,
     angle: Angle,
@@ -189,7 +189,8 @@ fn measurement(
 }
 
 // One record: its join, and its rotation, promotion or measurement; or the reason why it is refused.
-// Kept: the order, the state and the sums are three parameters and no struct, since most of what a turn calls changes one of them.
+// Kept: here and above order, state and sums are three parameters: a join changes the state alone and a rotation the sums alone,
+// and with a struct their contracts would have to say that the rest is as it was.
 fn turn(
     limit: u64,
     records: &[u64],
