@@ -58,7 +58,9 @@
  *
  * A rotation is exp(-i angle P): a gate that turns by theta, exp(-i theta/2 P), has the angle
  * theta/2. The words sine and cosine are sin(angle) and cos(angle) of that same angle; the
- * library carries them and computes none.
+ * library carries them and computes none. It adds their squares, each of the three operations
+ * rounded as C rounds a double, and refuses a sum that is not within 2^-50 of 1; the angle it
+ * does not compare with them. What sin and cos give for a finite angle passes.
  */
 #ifndef MIDVOKT_H
 #define MIDVOKT_H
@@ -71,7 +73,7 @@ extern "C" {
 #endif
 
 /* The project's version. */
-#define MIDVOKT_VERSION "0.5.1"
+#define MIDVOKT_VERSION "0.6.0"
 
 /* Bytes of stack that each call needs, whatever its arguments. At its worst a call was measured
  * to use 14,088 of them on x86-64: 10,872 of its own, and 3,216 where the system looks up
@@ -385,7 +387,10 @@ enum midvokt_number {
                                                 scalars other than 8, or an output shorter than
                                                 its section */
     /* the head, before all others; the index is 0 */
-    MIDVOKT_REFUSED_CEILING = 24             /* the ceiling is not 1 to 62 */
+    MIDVOKT_REFUSED_CEILING = 24,            /* the ceiling is not 1 to 62 */
+    /* a rotation, right after 8 for the same record */
+    MIDVOKT_REFUSED_SQUARES = 25             /* sine * sine + cosine * cosine is not
+                                                1 - 2^-50 to 1 + 2^-50 */
 };
 
 /*

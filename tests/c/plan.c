@@ -2,7 +2,9 @@
  * Plans a small circuit through the C interface and prints the plan: three coordinates, a
  * rotation with x = 5, then a measurement with z = 6 and pivot 2. Then the works as whole
  * numbers, of programs that differ in what is given of them; a rotation of nine coordinates under
- * several ceilings; and the small circuit with a max_k that is refused. `check` compares what is printed with plan.expected. C99 and C++11.
+ * several ceilings; rotations whose sine and cosine are of one angle and of none; and the small
+ * circuit with a max_k that is refused. `check` compares what is printed with plan.expected. C99
+ * and C++11.
  */
 #include <inttypes.h>
 #include <stdio.h>
@@ -284,6 +286,38 @@ static int try_ceilings(void)
     return right;
 }
 
+/* Plans a rotation of the first of three coordinates, behind one that passes, with this sine and
+ * cosine; prints the number, and tells whether it is the one that is wanted. */
+static int try_pair(double sine, double cosine, uint64_t wanted)
+{
+    uint64_t words[RECORDS * MIDVOKT_RECORD_WORDS] = {
+        MIDVOKT_KIND_ROTATION, 3, 1, 0, 0, 0, 0, ONE,
+        MIDVOKT_KIND_ROTATION, 3, 1, 0, 0, 0, 0, 0,
+    };
+    uint64_t number;
+    memcpy(words + MIDVOKT_RECORD_WORDS + MIDVOKT_RECORD_SINE, &sine, sizeof sine);
+    memcpy(words + MIDVOKT_RECORD_WORDS + MIDVOKT_RECORD_COSINE, &cosine, sizeof cosine);
+    number = plan_into(3, 8, LENT(words), LENGTH(result));
+    printf("sine %.17g, cosine %.17g: number %" PRIu64 ", index %" PRIu64 "\n", sine, cosine, number,
+           result[MIDVOKT_RESULT_INDEX]);
+    return number == wanted && (number == MIDVOKT_PLANNED || rest_is_zero());
+}
+
+/* Pairs of one angle, and pairs of none. */
+static int try_pairs(void)
+{
+    int right = try_pair(0.0, 0.0, MIDVOKT_REFUSED_SQUARES);
+    right &= try_pair(1.0, 1.0, MIDVOKT_REFUSED_SQUARES);
+    right &= try_pair(1.0, 0.0, MIDVOKT_PLANNED);
+    right &= try_pair(-1.0, -0.0, MIDVOKT_PLANNED);
+    right &= try_pair(0.6, 0.8, MIDVOKT_PLANNED);
+    right &= try_pair(0.6, 0.8000000000000006, MIDVOKT_PLANNED);
+    right &= try_pair(0.6, 0.8000000000000007, MIDVOKT_REFUSED_SQUARES);
+    right &= try_pair(0.6, 0.7999999999999994, MIDVOKT_REFUSED_SQUARES);
+    right &= try_pair(2.0, 0.0, MIDVOKT_REFUSED_FLOATS);
+    return right;
+}
+
 int main(void)
 {
     uint64_t record;
@@ -306,6 +340,7 @@ int main(void)
     right &= try_works("unread", UINT64_MAX, 7, LENT(promotion));
     right &= nine_are_the_same();
     right &= try_ceilings();
+    right &= try_pairs();
     number = plan(62);
     printf("max_k 62: number %" PRIu64 ", index %" PRIu64 "\n", number, result[MIDVOKT_RESULT_INDEX]);
     print_words("  words 9 to 13:", result + MIDVOKT_RESULT_WHOLE_MARK, 5);

@@ -24,6 +24,7 @@ CIRCUIT is a file, or - for standard input. One record a line; # is a comment.
   ceiling N              max, and the members of each component, are below N, as
                          the controller needs it (1 to 62; 62 if not given)
   rotate PAULI ANGLE     exp(-i ANGLE PAULI); sin=S, cos=C in place of ANGLE's
+                         (S*S + C*C has to be 1, give or take 2^-50)
   promote                a new active coordinate, behind the last position
   measure PAULI pivot N  the coordinate at position N leaves
   expect [PAULI]         an expectation: passed over by planning, as are

@@ -369,6 +369,16 @@ fn too_many(circuit: &Circuit, refusal: &Refusal) -> String {
     format!("the join makes a component of {members}, and {ceiling}: there have to be fewer")
 }
 
+/// Why a sine and a cosine are refused, with what their squares sum to.
+fn no_one_angle(circuit: &Circuit, refusal: &Refusal) -> String {
+    let placed = refused_record(circuit, refusal);
+    let sum = match placed.map(|placed| &placed.record) {
+        Some(Record::Rotation(r)) => format!("{}", r.sine * r.sine + r.cosine * r.cosine),
+        _ => "something else".to_owned(),
+    };
+    format!("the squares of sin and cos sum to {sum}, and have to sum to 1, give or take 2^-50")
+}
+
 /// Why a circuit is refused, in the words of its file.
 pub fn reason(circuit: &Circuit, refusal: &Refusal) -> String {
     let words = match refusal.reason {
@@ -381,6 +391,7 @@ pub fn reason(circuit: &Circuit, refusal: &Refusal) -> String {
             return format!("{ceiling}, and has to be 1 to {LARGEST_CEILING}");
         }
         Reason::ComponentSize => return too_many(circuit, refusal),
+        Reason::Squares => return no_one_angle(circuit, refusal),
         Reason::RecordWords => {
             let (found, most) = (circuit.records.len() as u64, MOST_RECORDS as u64);
             let (found, most) = (figures::whole(found), figures::whole(most));
@@ -516,6 +527,15 @@ mod tests {
                 "  phase is more than 3\n",
             ),
             ("initial 1\nmax 8\nrotate X 1 sin=2", "or sin or cos is not"),
+            (
+                "initial 1\nmax 8\nrotate X 0 sin=0 cos=0",
+                "  the squares of sin and cos sum to 0, and have to sum to 1, give or take 2^-50\n",
+            ),
+            ("initial 1\nmax 8\nrotate X 0 sin=-0.5", " sum to 1.25, "),
+            (
+                "initial 1\nmax 8\nrotate X 0 sin=0.6 cos=0.8000000000000007",
+                " sum to 1.000000000000001, ",
+            ),
         ];
         for (text, wanted) in cases {
             let found = said(text, 80);

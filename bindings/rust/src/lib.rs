@@ -86,7 +86,8 @@
 //! even or both odd.
 //!
 //! A rotation is exp(-i angle P): a gate that turns by theta, exp(-i theta/2 P), has the angle
-//! theta/2. The sine and cosine of a record are sin(angle) and cos(angle) of that same angle.
+//! theta/2. The sine and cosine of a record are sin(angle) and cos(angle) of that same angle. Where
+//! their squares do not sum to 1, give or take 2^-50, the record is refused ([`Reason::Squares`]).
 //!
 //! ```
 //! # #[cfg(feature = "std")] {

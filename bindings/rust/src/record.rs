@@ -14,6 +14,10 @@ pub const MOST_RECORDS: usize = 1024;
 /// P is i^phase X^x Z^z, X in front of Z at each position. A bit in both masks is XZ = -iY, so
 /// each Y needs 1 more in the phase: Y0 is x = 1, z = 1, phase = 1. A gate that turns by theta
 /// has the angle theta/2.
+///
+/// `sine * sine + cosine * cosine` has to be from 1 - 2^-50 to 1 + 2^-50, which it is for the sine
+/// and the cosine that are computed of one angle; else the record is refused. They are not
+/// compared with the angle.
 #[derive(Clone, Copy, Debug, PartialEq)]
 pub struct Rotation {
     /// The number of active coordinates.

@@ -58,6 +58,9 @@ pub enum Reason {
     Lengths,
     /// Number 24: the ceiling is not 1 to 62. It is refused before all else.
     Ceiling,
+    /// Number 25: the squares of sine and cosine, added as floats, do not sum to 1, give or take
+    /// 2^-50. It is looked at right after number 8 of the same record.
+    Squares,
     /// A number that this version of the crate has no name for.
     Unnamed(u64),
 }
@@ -90,6 +93,7 @@ impl Reason {
             Self::Sections => 22,
             Self::Lengths => 23,
             Self::Ceiling => 24,
+            Self::Squares => 25,
             Self::Unnamed(number) => number,
         }
     }
@@ -121,6 +125,7 @@ impl Reason {
             22 => Self::Sections,
             23 => Self::Lengths,
             24 => Self::Ceiling,
+            25 => Self::Squares,
             _ => Self::Unnamed(number),
         }
     }
@@ -160,6 +165,7 @@ impl Reason {
             Self::Sections => "the file's sections do not follow each other up to its trailer",
             Self::Lengths => "a section has a count that no plan has, or a buffer is too short",
             Self::Ceiling => "the ceiling is not 1 to 62",
+            Self::Squares => "the squares of sine and cosine do not sum to 1",
             Self::Unnamed(_) => "the number has no name in this version",
         }
     }
@@ -180,7 +186,7 @@ pub struct Refusal {
 }
 
 impl Refusal {
-    /// The reason's number, 1 to 24 for a reason that has a name.
+    /// The reason's number, 1 to 25 for a reason that has a name.
     pub const fn number(&self) -> u64 {
         self.reason.number()
     }
@@ -224,29 +230,29 @@ mod tests {
 
     #[test]
     fn every_number_has_its_own_reason_and_sentence() {
-        let reasons: Vec<_> = (1..=24).map(Reason::from_number).collect();
-        assert!(reasons.iter().map(|reason| reason.number()).eq(1..=24));
+        let reasons: Vec<_> = (1..=25).map(Reason::from_number).collect();
+        assert!(reasons.iter().map(|reason| reason.number()).eq(1..=25));
         let unnamed = |reason: &Reason| matches!(reason, Reason::Unnamed(_));
         assert!(!reasons.iter().any(unnamed));
         let sentences: HashSet<_> = reasons.iter().map(|reason| reason.sentence()).collect();
-        assert_eq!(sentences.len(), 24);
-        assert!(!sentences.contains(Reason::Unnamed(25).sentence()));
+        assert_eq!(sentences.len(), 25);
+        assert!(!sentences.contains(Reason::Unnamed(26).sentence()));
     }
 
     #[test]
     fn an_unknown_number_is_kept() {
-        for number in [0, 25, u64::MAX] {
+        for number in [0, 26, u64::MAX] {
             assert_eq!(Reason::from_number(number), Reason::Unnamed(number));
             assert_eq!(Reason::Unnamed(number).number(), number);
         }
         assert_eq!(
-            said(25),
-            "refusal 25 at record 7: the number has no name in this version"
+            said(26),
+            "refusal 26 at record 7: the number has no name in this version"
         );
     }
 
     #[test]
-    fn the_record_is_named_from_5_to_20() {
+    fn the_record_is_named_from_5_to_20_and_at_25() {
         assert_eq!(said(4), "refusal 4: initial_k is more than 512");
         assert_eq!(said(5), "refusal 5 at record 7: the kind is none of 0 to 5");
         assert_eq!(
@@ -258,5 +264,9 @@ mod tests {
         assert!(of_files[0].starts_with("refusal 21: the file's length, or the length or "));
         assert_eq!(said(1), "refusal 1: max_k is the ceiling or more");
         assert_eq!(said(24), "refusal 24: the ceiling is not 1 to 62");
+        assert_eq!(
+            said(25),
+            "refusal 25 at record 7: the squares of sine and cosine do not sum to 1"
+        );
     }
 }

@@ -67,7 +67,7 @@ fn the_reasons_have_the_names_of_the_header() {
         assert_eq!(format!("{reason:?}"), camel(name), "number {number}");
         numbers.push(number);
     }
-    assert!(numbers.into_iter().eq(1..=24));
+    assert!(numbers.into_iter().eq(1..=25));
 }
 
 #[test]

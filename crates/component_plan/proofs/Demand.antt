@@ -1,4 +1,4 @@
--- Demand 3, the sources of each join, and the laws of the whole works and of the ceiling, of what a call leaves: its contract says that the answer's fields are those of the definition's plan and that each buffer holds that plan's words and
+-- Demand 3, the sources of each join, and the laws of the whole works, of the ceiling and of a rotation's squares, of what a call leaves: its contract says that the answer's fields are those of the definition's plan and that each buffer holds that plan's words and
 -- zeros behind them, and the claims that hold of a plan hold of its words followed by zeros.
 use Rattle.std.specs.Prelude.{Result as Answered, Ok}
 use Prim.Native.Nat.{ℕ, ◌/◌, ◌≤◌, ◌<◌}
@@ -7,7 +7,8 @@ use mathlib.Core.Path.{◌≡◌, refl, sym, ap, ◌∙◌, subst, subst₂}
 use mathlib.Core.List.{List}
 use lib.ListN.{length}
 use lib.Ieee.{Float}
-use Rattle.records.specs.Record.{instructions_of}
+use Rattle.records.specs.Record.{kind, sine, cosine, record_at, instructions_of}
+use Rattle.records.specs.Sound.{UnitPair}
 use Rattle.records.specs.declared.Head.{Head}
 use Rattle.definition.specs.WholeWorks.{WholeWorks}
 use Rattle.definition.specs.Plan.{Lengths, Plan, Result, planned, refused_at, plan_of, padded}
@@ -15,6 +16,7 @@ use Rattle.definition.specs.Connectivity.{Connected}
 use Rattle.definition.specs.Sources.{SourcesListed}
 use Rattle.definition.specs.Laws.{Agree, TooWideExactly, HasDimensions, under, HoldsPlan}
 use Rattle.definition.proofs.Accepted.{accepted}
+use Rattle.definition.proofs.Squares.{rotation_squares}
 use Rattle.definition.proofs.Connected.{read_head, connected}
 use Rattle.definition.proofs.Padded.{Pads, zeroed_at, connected_padded}
 use Rattle.definition.proofs.Listed.{listed_padded}
@@ -117,6 +119,14 @@ call_dimensions h ws before after r a wide none =
     let p = found.0 in
     dimensions_padded h ws (lengths_of before) p (plan_in r after) (accepted h ws (lengths_of before) p (read_head h wide none) found.1) found.2
     (plan_dimensions h ws (lengths_of before) p found.1 wide none)
+
+-- 02, CR 5, of the records of a call that gives a plan: no rotation's sine and cosine are both zero
+pub call_squares : (h : Head) (ws : List ℕ) (before after : Buffers) (r : ActiveComponentPlan) → Answers h ws before after (Ok r)
+    → 8 ≤ h.max_k → h.nexpvals ≡ 0
+    → (i : ℕ) → i < length ws / 8 → kind (record_at ws i) ≡ 0 → UnitPair (sine (record_at ws i)) (cosine (record_at ws i))
+call_squares h ws before after r a wide none =
+    let found = planned_works (plan_of h ws (lengths_of before)) r a.answer in
+    rotation_squares h ws (lengths_of before) found.0 (read_head h wide none) found.1
 
 -- buffers of the same lengths hold the same after the same plan
 held_same : (p : Plan) (before after before' after' : Buffers) → lengths_of before' ≡ lengths_of before → Held (planned p) before after → Held (planned p) before' after' → after' ≡ after

@@ -17,6 +17,7 @@ pub mod Longest
 pub mod Claims
 pub mod Gathering
 pub mod Accepted
+pub mod Squares
 pub mod Works
 pub mod WholeFloats
 pub mod Room

@@ -1,8 +1,10 @@
 -- 01, "Reference circuits": the starred ones, those with initial 61 and 62, and further ones, each with the answer of the Rust as `tests/reference/run` prints it.
 -- An answer is a refusal's number and index; or the eight scalar fields, works as bits, with the five words of the whole works, and then the used words of the
 -- seven outputs.
-use Rattle.std.specs.Prelude.{ℕ, ◌+◌, ◌*◌, ◌/◌, List, [], ◌∷◌, length}
+use Rattle.std.specs.Prelude.{ℕ, ◌+◌, ◌*◌, ◌/◌, Bool, true, ◌&&◌, cond, eqb, List, [], ◌∷◌, length}
 use Rattle.std.specs.Float.Ieee.{to_bits}
+use Rattle.records.specs.Record.{kind, sine, cosine}
+use Rattle.records.specs.Pass.{sums_to_one}
 use Rattle.definition.specs.WholeWorks.{whole_words}
 use Rattle.definition.specs.Walk.{flag_word, bits_word}
 use Rattle.definition.specs.Plan.{Lengths, Plan, Result, planned, refused_at, plan_of}
@@ -37,6 +39,11 @@ unfolding plan_of answer_words
 answer_of c =
     answer_words
     (plan_of (record { initial_k = c.initial; max_k = c.max_k; nexpvals = c.expectations; ceiling = 62 }) c.words (enough (length c.words / 8)))
+
+-- whether the sine and cosine of each rotation pass (02, CR 5)
+abbrev pub pairs_pass : List (List ℕ) → Bool
+pairs_pass [] = true
+pairs_pass (r ∷ rs) = cond (eqb (kind r) 0) (sums_to_one (sine r) (cosine r)) true && pairs_pass rs
 
 unfoldable pub circuits : List Circuit
 circuits =

@@ -3,7 +3,8 @@
 use mathlib.Core.Path.{◌≡◌, refl}
 use mathlib.Core.List.{List, [], ◌∷◌, ◌++◌, map}
 use Prim.Native.Nat.{ℕ, ◌+◌, ◌-◌, ◌^◌}
-use Rattle.records.specs.Pass.{Checked, Passed, Refused, record_pass}
+use lib.Ieee.{binary64, of_bits, to_bits, add, mul}
+use Rattle.records.specs.Pass.{Checked, Passed, Refused, square_sum, record_pass}
 
 -- floats by their bits: 1, the next float above 1, infinity and a NaN; with `sign` added, the negative ones, and -0 alone
 abbrev one : ℕ
@@ -59,14 +60,26 @@ cases =
     ∷ case 0 (rotation 0 0 (sign + infinite) 0 one) (Refused 8 0)
     ∷ case 0 (rotation 0 0 not_number 0 one) (Refused 8 0)
     ∷ case 0 (rotation 0 0 (infinite - 1) 0 one) Passed
-    ∷ case 0 (rotation 0 0 0 one (sign + one)) Passed
-    ∷ case 0 (rotation 0 0 0 (sign + one) one) Passed
+    ∷ case 0 (rotation 0 0 0 one 0) Passed
+    ∷ case 0 (rotation 0 0 0 (sign + one) 0) Passed
+    ∷ case 0 (rotation 0 0 0 0 (sign + one)) Passed
     ∷ case 0 (rotation 0 0 0 sign one) Passed
     ∷ case 0 (rotation 0 0 0 above_one 0) (Refused 8 0)
     ∷ case 0 (rotation 0 0 0 0 (sign + above_one)) (Refused 8 0)
     ∷ case 0 (rotation 0 0 0 not_number one) (Refused 8 0)
     ∷ case 0 (rotation 0 0 0 0 not_number) (Refused 8 0)
     ∷ case 0 (rotation 0 4 infinite 0 one) (Refused 7 0)
+    -- 25: the squares of sine and cosine, after 8 of the same record, before 10 and before all of a later one
+    ∷ case 0 (rotation 0 0 0 0 0) (Refused 25 0)
+    ∷ case 0 (rotation 0 0 0 one (sign + one)) (Refused 25 0)
+    ∷ case 0 (rotation 0 0 infinite 0 0) (Refused 8 0)
+    ∷ case 0 (rotation 0 0 0 above_one above_one) (Refused 8 0)
+    ∷ case 0 (rotation 0 4 0 0 0) (Refused 7 0)
+    ∷ case 0 (rotation 0 0 0 0 0 ++ rotation 0 0 infinite 0 one) (Refused 25 0)
+    ∷ case 0 (rotation 0 0 infinite 0 one ++ rotation 0 0 0 0 0) (Refused 8 0)
+    ∷ case 0 (rotation 0 0 0 0 one ++ rotation 0 0 0 0 0) (Refused 25 1)
+    ∷ case 512 (rotation 0 0 0 0 0 ++ other 1) (Refused 25 0)
+    ∷ case 512 (other 1 ++ rotation 0 0 0 0 0) (Refused 10 0)
     -- 9: flag, before 6
     ∷ case 0 (measurement 63 0 2) (Refused 9 0)
     ∷ case 0 (measurement 63 9 1) Passed
@@ -86,3 +99,59 @@ cases =
 answered : map (λ (c : Case). record_pass c.initial_k c.words) cases ≡ map (λ (c : Case). c.answer) cases
 unfolding record_pass
 answered = refl
+
+-- a sine and a cosine, the sum of their squares, and the answer to a rotation with them
+record Pair : Type 0 where
+  sine : ℕ
+  cosine : ℕ
+  sum : ℕ
+  answer : Checked
+
+abbrev pair : (sine cosine sum : ℕ) → Checked → Pair
+pair s c sum a = record { sine = s; cosine = c; sum = sum; answer = a }
+
+-- 1 - 2^-50 and 1 + 2^-50, with the next float below the one and above the other
+abbrev least : ℕ
+least = one - 8
+
+abbrev most : ℕ
+most = one + 4
+
+abbrev pairs : List Pair
+pairs =
+    -- (0, 0), (1, 0), (-1, -0), (0.6, 0.8)
+    pair 0 0 0 (Refused 25 0)
+    ∷ pair one 0 one Passed
+    ∷ pair (sign + one) sign one Passed
+    ∷ pair 0x3fe3333333333333 0x3fe999999999999a one Passed
+    -- at the lower bound, and the sine a step smaller
+    ∷ pair 0x3fe333333333332f 0x3fe9999999999998 least Passed
+    ∷ pair 0x3fe333333333332e 0x3fe9999999999998 (least - 1) (Refused 25 0)
+    -- at the upper bound, and the cosine a step larger
+    ∷ pair 0x3fe3333333333333 0x3fe999999999999f most Passed
+    ∷ pair 0x3fe3333333333333 0x3fe99999999999a0 (most + 1) (Refused 25 0)
+    -- the same with one of them negative
+    ∷ pair (sign + 0x3fe333333333332f) 0x3fe9999999999998 least Passed
+    ∷ pair (sign + 0x3fe333333333332e) 0x3fe9999999999998 (least - 1) (Refused 25 0)
+    ∷ pair 0x3fe3333333333333 (sign + 0x3fe999999999999f) most Passed
+    ∷ pair 0x3fe3333333333333 (sign + 0x3fe99999999999a0) (most + 1) (Refused 25 0)
+    -- at each bound, and a step beyond it with one rounding of the exact squares; and the other way round
+    ∷ pair 0x3fe333333333332b 0x3fe999999999999a least Passed
+    ∷ pair 0x3fe3333333333339 0x3fe999999999999b most Passed
+    ∷ pair 0x3fe333333333333a 0x3fe999999999999a (most + 1) (Refused 25 0)
+    -- -0, and a square that is too small for a float
+    ∷ pair sign sign 0 (Refused 25 0)
+    ∷ pair 1 one one Passed
+    ∷ pair 1 1 0 (Refused 25 0)
+    ∷ []
+
+abbrev sum_of : Pair → ℕ
+sum_of p = to_bits binary64 (square_sum (of_bits binary64 p.sine) (of_bits binary64 p.cosine))
+
+summed : map sum_of pairs ≡ map (λ (p : Pair). p.sum) pairs
+unfolding square_sum add mul of_bits to_bits
+summed = refl
+
+judged : map (λ (p : Pair). record_pass 0 (rotation 0 0 0 p.sine p.cosine)) pairs ≡ map (λ (p : Pair). p.answer) pairs
+unfolding record_pass
+judged = refl

@@ -8,18 +8,19 @@ use mathlib.Core.List.{List, [], ◌∷◌, map}
 use Prim.Native.Nat.{ℕ, zero, suc, ◌+◌, ◌/◌, ◌^◌, ◌≤◌, ◌<◌, zero-le, suc-le-suc}
 use native.Mathlib.Nat.{suc-ne-zero, not-suc-le-zero, le_of_suc-le-suc}
 use native.Mathlib.Omega.{arith}
-use lib.Dec.{T, leb, ltb, eqb, leb→le}
+use lib.Dec.{T, leb, ltb, eqb, leb→le, eqb→eq}
 use lib.ListN.{length, get_or, take, length-map}
 use lib.Ieee.{Float, nan, inf, fin, binary64, of_bits, to_bits, is_nan, le}
 use lib.Ieee.Scale.{finite}
 use lib.Ieee.Fits.{and_l, and_r}
-use lib.Ieee.Bits.{to_bits-of_bits}
+use lib.Ieee.Bits.{to_bits-of_bits, of_bits-fits}
 use borrow.Author.Tests.{ltb-false, eqb-true}
 use Rattle.records.specs.declared.Instruction.{Instruction}
 use Rattle.records.specs.Record.{word_of, kind, width, phase, angle, sine, cosine, flag, record_at, records_of, instruction_of, instructions_of}
-use Rattle.records.specs.Pass.{Checked, Passed, Refused, one, minus_one, within_one, action_number, floats_number, or_else, rotation_number, promotion_number, measurement_number, numbers_by_kind, number_of, coordinates_after, refused_or, pass_from, record_pass}
+use Rattle.records.specs.Pass.{Checked, Passed, Refused, one, minus_one, within, within_one, action_number, floats_number, sums_to_one, squares_number, or_else, rotation_number, promotion_number, measurement_number, numbers_by_kind, number_of, coordinates_after, refused_or, pass_from, record_pass}
 use Rattle.records.specs.Sound.{InUnitRange, SoundAction, SoundRotation, SoundMeasurement, Sound, coordinates_through, Refusal}
 use Rattle.records.proofs.Words.{records_length, records-at}
+use Rattle.records.proofs.Pairs.{pair_sound}
 use Rattle.records.proofs.Steps.{pass_start, cond-true, cond-false, room}
 
 -- ---- one record that passes
@@ -55,25 +56,29 @@ above_no_nan (inf s) t = tt
 above_no_nan (fin s m e) t = tt
 
 range_sound : (x : Float) → T (within_one x) → InUnitRange x
-unfolding within_one
+unfolding within_one within
 range_sound x t =
     let a = and_l (le minus_one x) (le x one) t in
     record { no_nan = above_no_nan x a; from = a; to = and_r (le minus_one x) (le x one) t }
 
 rotation_sound : (r : List ℕ) → rotation_number r ≡ 0 → SoundRotation r
-unfolding rotation_number floats_number
+unfolding rotation_number floats_number squares_number
 rotation_sound r e =
-    let n = both_zero (action_number r) (floats_number r) e in
+    let n = both_zero (action_number r) (or_else (floats_number r) (squares_number r)) e in
+    let f = both_zero (floats_number r) (squares_number r) n.1 in
     let a = finite (angle r) in
     let s = within_one (sine r) in
     let c = within_one (cosine r) in
-    let t : T (a && (s && c)) = subst T (sym (cond-true (a && (s && c)) 7 n.1)) tt in
+    let t : T (a && (s && c)) = subst T (sym (cond-true (a && (s && c)) 7 f.0)) tt in
     let u = and_r a (s && c) t in
     record {
       action = action_sound r n.0;
       angle_finite = and_l a (s && c) t;
       sine_range = range_sound (sine r) (and_l s c u);
       cosine_range = range_sound (cosine r) (and_r s c u);
+      unit =
+          pair_sound (sine r) (cosine r) (of_bits-fits binary64 (word_of r 6)) (of_bits-fits binary64 (word_of r 7))
+          (subst T (sym (cond-true (sums_to_one (sine r) (cosine r)) 24 f.1)) tt);
     }
 
 measurement_sound : (r : List ℕ) → measurement_number r ≡ 0 → SoundMeasurement r
@@ -162,9 +167,13 @@ instruction_at ws i d h =
 
 -- ---- a refusal
 
+-- a refusal's number
+abbrev OneOf : ℕ → Type 0
+OneOf n = ((5 ≤ n) × (n ≤ 10)) ⊎ (n ≡ 25)
+
 -- 0, which passes, or a refusal's number
 abbrev allowed : ℕ → Bool
-allowed n = eqb n 0 || (leb 5 n && leb n 10)
+allowed n = eqb n 0 || ((leb 5 n && leb n 10) || eqb n 25)
 
 cond_allowed : (b : Bool) (m n : ℕ) → T (allowed m) → T (allowed n) → T (allowed (cond b m n))
 cond_allowed true m n s t = s
@@ -189,10 +198,13 @@ unfolding action_number
 action_allowed r = cond_allowed (ltb 62 (width r)) 6 (cond (ltb 3 (phase r)) 7 0) tt (cond_allowed (ltb 3 (phase r)) 7 0 tt tt)
 
 number_allowed : (c : ℕ) (r : List ℕ) → T (allowed (number_of c r))
-unfolding number_of rotation_number floats_number promotion_number measurement_number
+unfolding number_of rotation_number floats_number squares_number promotion_number measurement_number
 number_allowed c r =
     entry_allowed (numbers_by_kind c r) (kind r) 5 (
-      else_allowed (action_number r) (floats_number r) (action_allowed r) (cond_allowed (finite (angle r) && (within_one (sine r) && within_one (cosine r))) 0 8 tt tt),
+      else_allowed (action_number r) (or_else (floats_number r) (squares_number r)) (action_allowed r)
+          (else_allowed (floats_number r) (squares_number r)
+          (cond_allowed (finite (angle r) && (within_one (sine r) && within_one (cosine r))) 0 8 tt tt)
+          (cond_allowed (sums_to_one (sine r) (cosine r)) 0 25 tt tt)),
       (
         cond_allowed (ltb c 512) 0 10 tt tt,
         (tt, (tt, (entry_allowed (action_number r ∷ 0 ∷ []) (flag r) 9 (action_allowed r, (tt, tt)) tt, (tt, tt)))),
@@ -200,12 +212,15 @@ number_allowed c r =
     )
     tt
 
-range : (n : ℕ) → T (allowed n) → (n ≡ 0 → ⊥) → (5 ≤ n) × (n ≤ 10)
-range n t h = go (eqb n 0) refl t
+range : (n : ℕ) → T (allowed n) → (n ≡ 0 → ⊥) → OneOf n
+range n t h = go (eqb n 0) refl (leb 5 n && leb n 10) refl t
   where
-    go : (b : Bool) → eqb n 0 ≡ b → T (b || (leb 5 n && leb n 10)) → (5 ≤ n) × (n ≤ 10)
-    go true e t = absurd (h (eqb-true n 0 e))
-    go false e t = (leb→le 5 n (and_l (leb 5 n) (leb n 10) t), leb→le n 10 (and_r (leb 5 n) (leb n 10) t))
+    go : (b : Bool) → eqb n 0 ≡ b → (d : Bool) → (leb 5 n && leb n 10) ≡ d → T (b || (d || eqb n 25)) → OneOf n
+    go true e d f t = absurd (h (eqb-true n 0 e))
+    go false e true f t =
+        let u : T (leb 5 n && leb n 10) = subst T (sym f) tt in
+        inl (leb→le 5 n (and_l (leb 5 n) (leb n 10) u), leb→le n 10 (and_r (leb 5 n) (leb n 10) u))
+    go false e false f t = inr (eqb→eq n 25 t)
 
 -- the first record is refused, or a later one is
 which : (n i : ℕ) (rest : Checked) (m j : ℕ) → refused_or n i rest ≡ Refused m j → ((m ≡ n) × (j ≡ i) × (n ≡ 0 → ⊥)) ⊎ (rest ≡ Refused m j)
@@ -213,23 +228,21 @@ unfolding refused_or
 which zero i rest m j e = inr e
 which (suc n) i rest m j e = inl ((cc), (cc), suc-ne-zero n)
 
-refused_from : (rs : List (List ℕ)) (i c m j : ℕ) → pass_from i c rs ≡ Refused m j → (5 ≤ m) × (m ≤ 10) × (j < i + length rs)
+refused_from : (rs : List (List ℕ)) (i c m j : ℕ) → pass_from i c rs ≡ Refused m j → OneOf m × (j < i + length rs)
 unfolding pass_from
 refused_from [] i c m j e = let z : ◌≡◌ {A = ℕ} 0 1 = cc in absurd (suc-ne-zero 0 (sym z))
 refused_from (r ∷ rs) i c m j e = go (which (number_of c r) i (pass_from (suc i) (coordinates_after c r) rs) m j e) (refused_from rs (suc i) (coordinates_after c r) m j)
   where
     go : ((m ≡ number_of c r) × (j ≡ i) × (number_of c r ≡ 0 → ⊥)) ⊎ (pass_from (suc i) (coordinates_after c r) rs ≡ Refused m j)
-        → (pass_from (suc i) (coordinates_after c r) rs ≡ Refused m j → (5 ≤ m) × (m ≤ 10) × (j < suc i + length rs))
-        → (5 ≤ m) × (m ≤ 10) × (j < i + suc (length rs))
-    go (inl f) later =
-        let b = range (number_of c r) (number_allowed c r) f.2 in
-        omega (arith, b.0, b.1)
+        → (pass_from (suc i) (coordinates_after c r) rs ≡ Refused m j → OneOf m × (j < suc i + length rs))
+        → OneOf m × (j < i + suc (length rs))
+    go (inl f) later = (subst OneOf (sym f.0) (range (number_of c r) (number_allowed c r) f.2), omega (arith, f.1))
     go (inr g) later =
         let b = later g in
-        omega (arith, b.0, b.1, b.2)
+        (b.0, omega (arith, b.1))
 
--- a refusal has a number 5 to 10 and a record of the words
+-- a refusal has a number 5 to 10 or 25 and a record of the words
 pub refused_in : (k : ℕ) (ws : List ℕ) (n i : ℕ) → record_pass k ws ≡ Refused n i → Refusal ws n i
 refused_in k ws n i e =
     let b = refused_from (records_of ws) 0 k n i (sym (pass_start k ws) ∙ e) in
-    record { number_from = b.0; number_to = b.1; index_below = omega (arith, b.2, records_length ws) }
+    record { number_one_of = b.0; index_below = omega (arith, b.1, records_length ws) }

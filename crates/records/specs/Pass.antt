@@ -1,7 +1,7 @@
--- The record pass: refusals 5 to 10. 01, "Where planning stops", the row "Record pass", unless a comment names another place.
-use Rattle.std.specs.Prelude.{ℕ, zero, suc, List, [], ◌∷◌, Bool, ◌&&◌, cond, ltb, eqb, get_or, pos, Float, Result, Ok, Err}
-use Rattle.std.specs.Float.{fin}
-use Rattle.std.specs.Float.Ieee.{le, of_bits}
+-- The record pass: refusals 5 to 10, and 25. 01, "Where planning stops", the row "Record pass", unless a comment names another place.
+use Rattle.std.specs.Prelude.{ℕ, zero, suc, ◌+◌, ◌-◌, ◌^◌, List, [], ◌∷◌, Bool, ◌&&◌, cond, ltb, eqb, get_or, pos, negsuc, Float, Result, Ok, Err}
+use Rattle.std.specs.Float.{fin, binary64}
+use Rattle.std.specs.Float.Ieee.{add, mul, le, of_bits}
 use Rattle.std.specs.Float.Ieee.Scale.{finite}
 use Rattle.refusals.specs.Numbers as Reasons
 use Rattle.refusals.specs.declared.Refusal.{Refusal}
@@ -14,9 +14,13 @@ one = fin Bool.false 1 (pos 0)
 abbrev pub minus_one : Float
 minus_one = fin Bool.true 1 (pos 0)
 
--- In -1 to 1, the ends and -0 too; a NaN is not (`le` is false there).
+-- from the one to the other, both included; a NaN is not (`le` is false there)
+unfoldable pub within : (low high x : Float) → Bool
+within low high x = le low x && le x high
+
+-- in -1 to 1, and so is -0
 unfoldable pub within_one : Float → Bool
-within_one x = le minus_one x && le x one
+within_one x = within minus_one one x
 
 -- "6: width > 62. 7: phase > 3". A number 0 says that the record passes.
 unfoldable pub action_number : List ℕ → ℕ
@@ -26,14 +30,33 @@ action_number r = cond (ltb 62 (width r)) 6 (cond (ltb 3 (phase r)) 7 0)
 unfoldable pub floats_number : List ℕ → ℕ
 floats_number r = cond (finite (angle r) && (within_one (sine r) && within_one (cosine r))) 0 8
 
+-- 02, CR 5: "s·s + c·c, worked in floats": each of the three operations is rounded
+unfoldable pub square_sum : (s c : Float) → Float
+square_sum s c = add binary64 (mul binary64 s s) (mul binary64 c c)
+
+-- "1 - 2^-50 to 1 + 2^-50", in the form of `one`: `negsuc 49` is -50
+abbrev pub least_sum : Float
+least_sum = fin Bool.false (2 ^ 50 - 1) (negsuc 49)
+
+abbrev pub most_sum : Float
+most_sum = fin Bool.false (2 ^ 50 + 1) (negsuc 49)
+
+-- 02, CR 5: "must lie from 1 - 2^-50 to 1 + 2^-50, both included"
+unfoldable pub sums_to_one : (s c : Float) → Bool
+sums_to_one s c = within least_sum most_sum (square_sum s c)
+
+-- 02, CR 5: "A failing pair gives 25"
+unfoldable pub squares_number : List ℕ → ℕ
+squares_number r = cond (sums_to_one (sine r) (cosine r)) 0 25
+
 -- "in table order": the first of two numbers that is not 0
 unfoldable pub or_else : ℕ → ℕ → ℕ
 or_else zero n = n
 or_else (suc m) n = suc m
 
--- a rotation: 6, 7 and 8, in that order
+-- a rotation: 6, 7 and 8, in that order; 25 "right after 8 for the same record" (02, CR 5)
 unfoldable pub rotation_number : List ℕ → ℕ
-rotation_number r = or_else (action_number r) (floats_number r)
+rotation_number r = or_else (action_number r) (or_else (floats_number r) (squares_number r))
 
 -- "10: a promotion that would make the 513th coordinate"
 unfoldable pub promotion_number : (coordinates : ℕ) → ℕ
@@ -80,5 +103,5 @@ pass_from index coordinates (r ∷ rs) =
 
 -- The pass over the words, from initial_k coordinates. To unfold this name is to unfold all that it computes by.
 unfoldable pub record_pass : (initial_k : ℕ) → List ℕ → Checked
-unfolding records_of chunks pass_from refused_or number_of measurement_number promotion_number rotation_number or_else floats_number action_number within_one le of_bits
+unfolding records_of chunks pass_from refused_or number_of measurement_number promotion_number rotation_number or_else squares_number sums_to_one square_sum floats_number action_number within_one within add mul le of_bits
 record_pass initial_k ws = pass_from 0 initial_k (records_of ws)

@@ -1,10 +1,11 @@
--- What follows from the record pass's answer: of each record that it lets through (01, "Where planning stops", refusals 5 to 9), of the
--- coordinates (refusal 10), and of a refusal.
-use Rattle.std.specs.Prelude.{ℕ, ◌/◌, ◌≤◌, ◌<◌, ◌≡◌, not, List, [], ◌∷◌, T, length, Float}
-use Rattle.std.specs.Float.Ieee.{is_nan, le}
+-- What follows from the record pass's answer: of each record that it lets through (01, "Where planning stops", refusals 5 to 9; 02, CR 5,
+-- refusal 25), of the coordinates (refusal 10), and of a refusal.
+use Rattle.std.specs.Prelude.{ℕ, ◌/◌, ◌≤◌, ◌<◌, ◌≡◌, not, ◌&&◌, ◌⊎◌, List, [], ◌∷◌, Bool, T, length, pos, Float}
+use Rattle.std.specs.Float.{fin}
+use Rattle.std.specs.Float.Ieee.{is_nan, le, eq}
 use Rattle.std.specs.Float.Ieee.Scale.{finite}
 use Rattle.records.specs.Record.{kind, width, phase, angle, sine, cosine, flag}
-use Rattle.records.specs.Pass.{one, minus_one, coordinates_after}
+use Rattle.records.specs.Pass.{one, minus_one, least_sum, most_sum, square_sum, coordinates_after}
 
 -- a number in -1 to 1 (refusal 8)
 pub record InUnitRange (x : Float) : Type 0 where
@@ -12,17 +13,28 @@ pub record InUnitRange (x : Float) : Type 0 where
   pub from : T (le minus_one x)
   pub to : T (le x one)
 
+-- zero of either sign, as `-0 = 0`
+abbrev pub is_zero : Float → Bool
+is_zero x = eq x (fin Bool.false 0 (pos 0))
+
+-- sine and cosine of one angle, as far as their squares tell (refusal 25)
+pub record UnitPair (s c : Float) : Type 0 where
+  pub from : T (le least_sum (square_sum s c))
+  pub to : T (le (square_sum s c) most_sum)
+  pub not_both_zero : T (not (is_zero s && is_zero c))
+
 -- refusals 6 and 7
 pub record SoundAction (r : List ℕ) : Type 0 where
   pub width_small : width r ≤ 62
   pub phase_small : phase r ≤ 3
 
--- refusals 6 to 8, of a rotation
+-- refusals 6 to 8 and 25, of a rotation
 pub record SoundRotation (r : List ℕ) : Type 0 where
   pub action : SoundAction r
   pub angle_finite : T (finite (angle r))
   pub sine_range : InUnitRange (sine r)
   pub cosine_range : InUnitRange (cosine r)
+  pub unit : UnitPair (sine r) (cosine r)
 
 -- refusals 9, 6 and 7, of a measurement; flag 1 leaves width and phase unread (01, section 2)
 pub record SoundMeasurement (r : List ℕ) : Type 0 where
@@ -42,6 +54,5 @@ coordinates_through coordinates (r ∷ rs) = coordinates_through (coordinates_af
 
 -- a refusal of the words, by its number and its record's index
 pub record Refusal (ws : List ℕ) (number index : ℕ) : Type 0 where
-  pub number_from : 5 ≤ number
-  pub number_to : number ≤ 10
+  pub number_one_of : ((5 ≤ number) × (number ≤ 10)) ⊎ (number ≡ 25)
   pub index_below : index < length ws / 8

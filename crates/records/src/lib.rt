@@ -1,5 +1,5 @@
 // Instruction records: the head, the decoded instruction, reading a record and the record pass (01, section 2 and
-// "Where planning stops", refusals 5 to 10).
+// "Where planning stops", refusals 5 to 10; 02, CR 5, refusal 25).
 #![tactic(auto)]
 
 ghost use Rattle.std.specs.Prelude.{◌≡◌, ◌&&◌};
@@ -8,9 +8,15 @@ ghost use Rattle.std.specs.Float.Ieee.{of_bits};
 ghost use Rattle.std.specs.Float.Ieee.Scale.{finite};
 ghost use Rattle.refusals.specs.Answer.{number_or_0};
 ghost use Rattle.records.specs.Record.{word_of, record_at, instruction_of, measurement_of};
-ghost use Rattle.records.specs.Pass.{within_one, action_number, floats_number, rotation_number, promotion_number, measurement_number, number_of, checked_of, record_pass};
+ghost use Rattle.records.specs.Pass.{within, within_one, action_number, floats_number, square_sum, sums_to_one, squares_number, rotation_number, promotion_number, measurement_number, number_of, checked_of, record_pass};
 
 use refusals::{Reason, Refusal};
+
+// 1 - 2^-50 by its bits, the eighth float below 1.
+const LEAST_SUM: f64 = f64::from_bits(0x3fef_ffff_ffff_fff8);
+
+// 1 + 2^-50 by its bits, the fourth float above 1.
+const MOST_SUM: f64 = f64::from_bits(0x3ff0_0000_0000_0004);
 
 // The head of a program (01, section 2; the ceiling: 02, CR 4).
 #[derive(Clone, Copy, Debug, PartialEq, Eq)]
@@ -164,11 +170,18 @@ pub fn read(words: &[u64], i: usize) -> Instruction
     read_record(record_at(words, i))
 }
 
+// Whether x is from the one to the other, both included.
+fn within(low: f64, high: f64, x: f64) -> bool
+    ensures { result ≡ within low high x }
+{
+    low <= x && x <= high
+}
+
 // Whether x is in -1 to 1.
 fn within_one(x: f64) -> bool
     ensures { result ≡ within_one x }
 {
-    -1.0 <= x && x <= 1.0
+    within(-1.0, 1.0, x)
 }
 
 // Refusal 6 or 7 of a record's width and phase.
@@ -206,13 +219,40 @@ fn check_floats(fields: &[u64]) -> Result<(), Reason>
     if sound { Ok(()) } else { Err(Reason::Floats) }
 }
 
+// The square of the sine and that of the cosine, added.
+fn square_sum(sine: f64, cosine: f64) -> f64
+    ensures { result ≡ square_sum sine cosine }
+{
+    sine * sine + cosine * cosine
+}
+
+// Whether the squares sum to 1, give or take 2^-50.
+fn sums_to_one(sine: f64, cosine: f64) -> bool
+    ensures { result ≡ sums_to_one sine cosine }
+{
+    within(LEAST_SUM, MOST_SUM, square_sum(sine, cosine))
+}
+
+// Refusal 25 of a record's sine and cosine.
+#[tactic(auto, unfolding(crate::specs::Pass::squares_number))]
+fn check_squares(fields: &[u64]) -> Result<(), Reason>
+    ensures { number_or_0 result ≡ squares_number fields.now }
+{
+    if sums_to_one(float_word(fields, 6), float_word(fields, 7)) {
+        Ok(())
+    } else {
+        Err(Reason::Squares)
+    }
+}
+
 // The refusal of a record whose kind is a rotation's.
 #[tactic(auto, unfolding(crate::specs::Pass::rotation_number, crate::specs::Pass::or_else))]
 fn check_rotation(fields: &[u64]) -> Result<(), Reason>
     ensures { number_or_0 result ≡ rotation_number fields.now }
 {
     check_action(fields)?;
-    check_floats(fields)
+    check_floats(fields)?;
+    check_squares(fields)
 }
 
 // Refusal 10 of a promotion after so many coordinates.
@@ -252,7 +292,7 @@ fn check_record(fields: &[u64], coordinates: u64) -> Result<(), Reason>
     }
 }
 
-// The first refusal 5 to 10 with its record's index, over the whole records.
+// The first refusal 5 to 10 or 25 with its record's index, over the whole records.
 pub fn check_records(words: &[u64], initial_k: u64) -> Result<(), Refusal>
     ensures { checked_of result ≡ record_pass initial_k words.now }
 {

@@ -1,8 +1,8 @@
--- The number of each reason for a refusal: 01, "Where planning stops", 1 to 20; 02, CR 2, 21 to 23, and CR 4, 24.
+-- The number of each reason for a refusal: 01, "Where planning stops", 1 to 20; 02, CR 2, 21 to 23, CR 4, 24, and CR 5, 25.
 use Rattle.std.specs.Prelude.{ℕ, List, ◌++◌, codes, decimal}
 use Rattle.refusals.specs.declared.Reason.{Reason}
 use Rattle.refusals.specs.declared.Refusal.{Refusal}
-use Rattle.refusals.specs.declared.Reason.TheVariants.{MaxK, RecordWords, Buffers, InitialK, Kind, Width, Phase, Floats, Flag, Promotion, RotationWidth, MeasurementWidth, NothingActive, ComponentSize, Pivot, PivotComponent, PivotX, PivotZ, Eigenvalues, Identity, File, Sections, Lengths, Ceiling}
+use Rattle.refusals.specs.declared.Reason.TheVariants.{MaxK, RecordWords, Buffers, InitialK, Kind, Width, Phase, Floats, Flag, Promotion, RotationWidth, MeasurementWidth, NothingActive, ComponentSize, Pivot, PivotComponent, PivotX, PivotZ, Eigenvalues, Identity, File, Sections, Lengths, Ceiling, Squares}
 
 abbrev pub number_of : Reason → ℕ
 number_of MaxK = 1
@@ -29,6 +29,7 @@ number_of File = 21
 number_of Sections = 22
 number_of Lengths = 23
 number_of Ceiling = 24
+number_of Squares = 25
 
 -- the words in which a program tells a refusal
 abbrev pub told : Refusal → List ℕ

@@ -58,6 +58,8 @@ pub enum Reason {
     Lengths,
     // The ceiling is not 1 to 62.
     Ceiling,
+    // The squares of sine and cosine do not sum to 1.
+    Squares,
 }
 
 // A refusal's reason and its record's index, 0 for one of the head, the buffers or a file.
@@ -97,6 +99,7 @@ impl Reason {
             Reason::Sections => 22,
             Reason::Lengths => 23,
             Reason::Ceiling => 24,
+            Reason::Squares => 25,
         }
     }
 

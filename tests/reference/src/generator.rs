@@ -1,7 +1,7 @@
 //! Programs for the oracle and for the comparison: random ones, the same for the same seed,
 //! and complete lists over small alphabets; at the ceiling 62, and under others.
 //!
-//! The random ones reach every refusal of docs/01-scope.md, 1 to 20, and plans with all six
+//! The random ones reach every refusal of docs/01-scope.md, 1 to 20, 02's 25, and plans with all six
 //! kinds of record, selected and not, of each mark of the whole works. Rotations carry Rust's
 //! own sines and cosines, but for those that are refused for theirs.
 
@@ -11,6 +11,7 @@ mod damage;
 mod draft;
 mod edits;
 mod faults;
+mod pairs;
 mod probes;
 mod random;
 mod shapes;
@@ -27,6 +28,12 @@ pub use probes::probes;
 pub use random::Random as Numbers;
 pub use shapes::{check_circuit, steady};
 pub use small::small_programs;
+
+/// A rotation about X where one coordinate is active, with Rust's own sine and cosine.
+pub fn rotation_words(angle: f64) -> [u64; 8] {
+    let [angle, sine, cosine] = draft::floats(angle);
+    [draft::ROTATION, 1, 1, 0, 0, angle, sine, cosine]
+}
 
 /// Makes the random program of a seed and a number.
 pub type Draw = fn(u64, u64) -> Result<Program, String>;

@@ -1,5 +1,5 @@
 //! The refusals that are the documents' own and not the Rust's: 02's 24, for a ceiling that is
-//! none, then 01's 1 to 10, in 01's order.
+//! none, then 01's 1 to 10, in 01's order, with 02's 25 behind 8.
 
 use crate::input::{LARGEST_CEILING, Program, RECORD_WORDS, Record};
 
@@ -35,7 +35,7 @@ pub fn is_left_unread(program: &Program) -> bool {
     program.max_k < 8 || program.nexpvals != 0
 }
 
-/// Refusals 2 to 10. The record pass goes over all records before the walk begins.
+/// Refusals 2 to 10 and 25. The record pass goes over all records before the walk begins.
 pub fn before_the_walk(program: &Program) -> Option<Refusal> {
     if !program.words.len().is_multiple_of(RECORD_WORDS) || program.words.len() > MOST_RECORD_WORDS
     {
@@ -77,10 +77,12 @@ fn of_record_pass(initial_k: u64, records: &[Record]) -> Option<Refusal> {
     None
 }
 
-/// Refusals 5 to 10 for one record that meets this many coordinates.
+/// Refusals 5 to 10 and 25 for one record that meets this many coordinates.
 fn of_record(record: &Record, coordinates: u64) -> Option<u64> {
     match record.kind {
-        0 => of_action(record).or_else(|| of_floats(record)),
+        0 => of_action(record)
+            .or_else(|| of_floats(record))
+            .or_else(|| of_squares(record)),
         1 if coordinates >= MOST_COORDINATES => Some(10),
         4 => of_measurement(record),
         1 | 2 | 3 | 5 => None,
@@ -117,4 +119,16 @@ fn of_floats(record: &Record) -> Option<u64> {
     } else {
         Some(8)
     }
+}
+
+/// Whether a sine and a cosine can be those of one angle, by their squares: 02, CR 5.
+pub fn sums_to_one(sine: f64, cosine: f64) -> bool {
+    let slack = 2f64.powi(-50);
+    (1.0 - slack..=1.0 + slack).contains(&(sine * sine + cosine * cosine))
+}
+
+/// Refusal 25.
+fn of_squares(record: &Record) -> Option<u64> {
+    let [_, sine, cosine] = record.last.map(f64::from_bits);
+    (!sums_to_one(sine, cosine)).then_some(25)
 }

@@ -37,7 +37,8 @@ const OF_EACH_PLAN: [usize; 6] = [
     44, // a quotient, not selected
     44, // the same, selected
 ];
-const REFUSALS: usize = 20;
+/// 01's refusals, 1 to 20, and 02's 25.
+const REFUSALS: usize = 21;
 /// How many random programs under ceilings are taken that are refused 14.
 const TOO_LARGE_UNDER_CEILINGS: usize = 3;
 /// How many are taken with a plan of each sort.
@@ -91,14 +92,15 @@ fn wanted_under_ceilings() -> Vec<usize> {
     wanted
 }
 
-/// The place of an answer among what is wanted; refusal 24 has none.
+/// The place of an answer among what is wanted; refusal 24 has none, and 25 the last of a refusal.
 fn place(expected: &Expected) -> Option<usize> {
     let [_, selected, .., mark, dense, _, _, _] = expected.result;
     match (expected.number as usize, mark) {
         (0, 0) => Some(REFUSALS + selected as usize),
         (0, 1) => Some(REFUSALS + 2 + usize::from(dense > 0)),
         (0, _) => Some(REFUSALS + 4 + selected as usize),
-        (number @ 1..=REFUSALS, _) => Some(number - 1),
+        (number @ 1..=20, _) => Some(number - 1),
+        (25, _) => Some(REFUSALS - 1),
         _ => None,
     }
 }

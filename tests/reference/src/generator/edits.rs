@@ -1,6 +1,7 @@
 //! Single faults as edits of one record, so that several can be made in the same record.
 
 use super::draft::{MEASUREMENT, ROTATION, floats};
+use super::pairs;
 
 /// The eight words of a record.
 pub type Words = [u64; 8];
@@ -15,6 +16,11 @@ const OTHER_WIDTH: Edit = |record, k| record[1] = if k < 62 { k + 1 } else { 61 
 const ANGLE: Edit = |record, _| record[5] = f64::INFINITY.to_bits();
 const SINE: Edit = |record, _| record[6] = 1.0f64.next_up().to_bits();
 const COSINE: Edit = |record, _| record[7] = (-1.0f64).next_down().to_bits();
+const NO_SQUARES: Edit = |record, _| (record[6], record[7]) = (0, 0);
+const SQUARES_PAST: Edit = |record, _| {
+    let [_, [_, sine, cosine]] = pairs::at_a_bound(0.5, true);
+    (record[6], record[7]) = (sine, cosine);
+};
 const FLAG: Edit = |record, _| record[6] = 2;
 const EXPECTATION: Edit = |record, _| record[6] = 1;
 const PIVOT_PAST: Edit = |record, k| record[5] = k;
@@ -25,7 +31,17 @@ const IMAGINARY: Edit = |record, _| (record[2], record[3], record[4]) = (0, reco
 const NO_MASKS: Edit = |record, _| (record[2], record[3]) = (0, 0);
 
 /// What can be wrong in a rotation.
-const ROTATION_EDITS: [Edit; 7] = [OTHER_WIDTH, SINE, COSINE, ANGLE, PHASE, WIDTH_BOUND, KIND];
+const ROTATION_EDITS: [Edit; 9] = [
+    OTHER_WIDTH,
+    NO_SQUARES,
+    SQUARES_PAST,
+    SINE,
+    COSINE,
+    ANGLE,
+    PHASE,
+    WIDTH_BOUND,
+    KIND,
+];
 
 /// What can be wrong in a measurement.
 const MEASUREMENT_EDITS: [Edit; 12] = [

@@ -1,6 +1,7 @@
 //! Ways of going wrong, in the order of 01's refusals.
 
 use super::draft::{Draft, MEASUREMENT, ROTATION, floats, low_bits};
+use super::pairs;
 use crate::refusals::{MOST_RECORD_WORDS, MOST_WIDTH, least_lengths};
 
 /// Something that makes a draft refused, as it is likely but not sure to do.
@@ -10,12 +11,14 @@ pub type Fault = fn(&mut Draft);
 pub const HEADS: [Fault; 4] = [max_k, words, lengths, initial_k];
 
 /// What goes wrong in one record.
-pub const RECORDS: [Fault; 15] = [
+pub const RECORDS: [Fault; 17] = [
     kind,
     width_bound,
     phase,
     angle,
     sine_or_cosine,
+    squares,
+    squares_within,
     flag,
     rotation_width,
     measurement_width,
@@ -121,6 +124,33 @@ fn sine_or_cosine(draft: &mut Draft) {
         .pick(&[step_past_one, -step_past_one, 2.0, f64::NAN, -f64::INFINITY]);
     last[draft.random.between(1, 2) as usize] = value.to_bits();
     turned(draft, last);
+}
+
+/// Refusal 25: no pair of any angle, or one that is just none.
+fn squares(draft: &mut Draft) {
+    let own = floats(draft.angle());
+    let outward = draft.random.chance(50);
+    let [_, beyond] = pairs::at_a_bound(draft.angle(), outward);
+    let one = 1.0f64.to_bits();
+    let any = [(); 2].map(|()| draft.random.float(-1.0, 1.0).to_bits());
+    let choices = [
+        [own[0], 0, 0],
+        [own[0], one, one],
+        [own[0], any[0], any[1]],
+        beyond,
+        beyond,
+    ];
+    let last = draft.random.pick(&choices);
+    turned(draft, last);
+}
+
+/// A pair at a bound of 25, which passes, and then a record that does not.
+fn squares_within(draft: &mut Draft) {
+    let outward = draft.random.chance(50);
+    let [within, _] = pairs::at_a_bound(draft.angle(), outward);
+    turned(draft, within);
+    draft.some(0, 2);
+    draft.random.pick(&[kind, flag, squares])(draft);
 }
 
 /// Refusal 9.

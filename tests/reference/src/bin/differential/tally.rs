@@ -7,8 +7,10 @@ use midvokt_reference::whole;
 use crate::ceilings::Ceilings;
 use crate::results::Results;
 
-/// Planning's refusals have numbers up to this one, but for that of the ceiling.
+/// 01's refusals have the numbers up to this one.
 const LAST_REFUSAL: usize = 20;
+/// 02's number for a sine and a cosine whose squares do not sum to 1.
+const SQUARES: usize = 25;
 /// 02's number for a ceiling outside 1 to 62.
 const NO_CEILING: usize = 24;
 /// 02's number for a file or an output that is too short.
@@ -67,7 +69,7 @@ impl Stored {
 #[derive(Default)]
 pub struct Tally {
     /// Place 0 counts plans, the others refusals.
-    answers: [u64; NO_CEILING + 1],
+    answers: [u64; SQUARES + 1],
     selected: u64,
     /// Plans by the mark of their whole works.
     marks: [u64; MARKS.len()],
@@ -88,6 +90,11 @@ pub struct Tally {
     pub numbers: u64,
     differences: u64,
     first: Option<(u64, String)>,
+}
+
+/// The numbers that a call at the ceiling 62 can return for a refusal.
+fn refusals() -> impl Iterator<Item = usize> {
+    (1..=LAST_REFUSAL).chain([SQUARES])
 }
 
 /// The member counts of a plan's groups.
@@ -181,7 +188,7 @@ impl Tally {
     /// The refusals that never occurred.
     fn missing(&self) -> Vec<String> {
         let never = |&number: &usize| self.answers[number] == 0;
-        (1..=LAST_REFUSAL)
+        refusals()
             .filter(never)
             .map(|number| number.to_string())
             .collect()
@@ -250,7 +257,7 @@ impl Tally {
 
     /// What programs under ceilings came to, by name.
     fn under_ceilings(&self) -> Vec<(&'static str, u64)> {
-        let others = (2..=LAST_REFUSAL).filter(|&number| number != 14);
+        let others = refusals().filter(|number| ![1, 14].contains(number));
         let mut counts = vec![
             ("refused 24", self.answers[NO_CEILING]),
             ("refused 1", self.answers[1]),
@@ -295,7 +302,7 @@ impl Tally {
     /// The report.
     pub fn text(&self) -> String {
         let mut lines = self.answered().to_vec();
-        lines.extend((1..=LAST_REFUSAL).map(|n| format!("refused {n}: {}", self.answers[n])));
+        lines.extend(refusals().map(|n| format!("refused {n}: {}", self.answers[n])));
         let marks = MARKS.iter().zip(self.marks);
         lines.extend(marks.map(|(name, count)| format!("plans {name}: {count}")));
         let reached = REACHED.iter().zip(self.reached);
