@@ -373,9 +373,10 @@ fn too_many(circuit: &Circuit, refusal: &Refusal) -> String {
 fn no_one_angle(circuit: &Circuit, refusal: &Refusal) -> String {
     let placed = refused_record(circuit, refusal);
     let sum = match placed.map(|placed| &placed.record) {
-        Some(Record::Rotation(r)) => format!("{}", r.sine * r.sine + r.cosine * r.cosine),
+        Some(Record::Rotation(r)) => format!("{:?}", r.sine * r.sine + r.cosine * r.cosine),
         _ => "something else".to_owned(),
     };
+    let sum = sum.strip_suffix(".0").unwrap_or(&sum);
     format!("the squares of sin and cos sum to {sum}, and have to sum to 1, give or take 2^-50")
 }
 
@@ -532,6 +533,11 @@ mod tests {
                 "  the squares of sin and cos sum to 0, and have to sum to 1, give or take 2^-50\n",
             ),
             ("initial 1\nmax 8\nrotate X 0 sin=-0.5", " sum to 1.25, "),
+            ("initial 1\nmax 8\nrotate X 0 sin=1 cos=-1", " sum to 2, "),
+            (
+                "initial 1\nmax 8\nrotate X 0 sin=1e-100 cos=0",
+                " sum to 1e-200, ",
+            ),
             (
                 "initial 1\nmax 8\nrotate X 0 sin=0.6 cos=0.8000000000000007",
                 " sum to 1.000000000000001, ",

@@ -18,17 +18,22 @@ fn head(initial_k: u64) -> Head {
     }
 }
 
-/// A rotation about X by an angle.
-fn rotation(width: u64, x: u64, angle: f64) -> Record {
+/// A rotation about X by an angle, with this sine and cosine.
+fn turned(width: u64, x: u64, [angle, sine, cosine]: [f64; 3]) -> Record {
     Record::Rotation(Rotation {
         width,
         x,
         z: 0,
         phase: 0,
         angle,
-        sine: angle.sin(),
-        cosine: angle.cos(),
+        sine,
+        cosine,
     })
+}
+
+/// A rotation about X by an angle.
+fn rotation(width: u64, x: u64, angle: f64) -> Record {
+    turned(width, x, [angle, angle.sin(), angle.cos()])
 }
 
 /// Three coordinates: a rotation with x = 5, then a measurement with z = 6 and pivot 2.
@@ -221,25 +226,12 @@ fn words_that_no_planning_wrote_are_no_step() {
     assert_eq!(buffers.step(1), None);
 }
 
-/// A rotation about X with this sine and cosine.
-fn turned(sine: f64, cosine: f64) -> Record {
-    Record::Rotation(Rotation {
-        width: 1,
-        x: 1,
-        z: 0,
-        phase: 0,
-        angle: 0.0,
-        sine,
-        cosine,
-    })
-}
-
 #[test]
 fn a_sine_and_a_cosine_are_of_one_angle() {
     let least = (1.0 - 2f64.powi(-51), 0.0);
     let most = (1.0, 2f64.powi(-25));
     for (sine, cosine) in [least, most, (0.6, 0.8), (1.0, 0.0), (-1.0, -0.0)] {
-        let plan = plan(&head(1), &[turned(sine, cosine)]).unwrap();
+        let plan = plan(&head(1), &[turned(1, 1, [0.0, sine, cosine])]).unwrap();
         let kernel = &plan.rotations[0].kernel;
         assert_eq!(kernel.sin_kernel_angle.to_bits(), sine.to_bits());
         assert_eq!(kernel.cos_kernel_angle.to_bits(), cosine.to_bits());
@@ -247,19 +239,12 @@ fn a_sine_and_a_cosine_are_of_one_angle() {
     let below = (0.6, f64::from_bits(0.8f64.to_bits() - 6));
     let above = (0.6, f64::from_bits(0.8f64.to_bits() + 6));
     for (sine, cosine) in [below, above, (0.0, 0.0), (-0.0, 0.0), (1.0, 1.0)] {
-        let records = [turned(0.0, 1.0), turned(sine, cosine), turned(2.0, 0.0)];
+        let pairs = [[0.0, 0.0, 1.0], [0.0, sine, cosine], [0.0, 2.0, 0.0]];
+        let records = pairs.map(|floats| turned(1, 1, floats));
         let refusal = plan(&head(1), &records).unwrap_err();
         assert_eq!((refusal.reason, refusal.index), (Reason::Squares, 1));
     }
-    let unfinite = Record::Rotation(Rotation {
-        width: 1,
-        x: 1,
-        z: 0,
-        phase: 0,
-        angle: f64::INFINITY,
-        sine: 0.0,
-        cosine: 0.0,
-    });
-    let refusal = plan(&head(1), &[unfinite]).unwrap_err();
+    let endless = turned(1, 1, [f64::INFINITY, 0.0, 0.0]);
+    let refusal = plan(&head(1), &[endless]).unwrap_err();
     assert_eq!((refusal.reason, refusal.index), (Reason::Floats, 0));
 }

@@ -135,7 +135,7 @@ pairs =
     ∷ pair (sign + 0x3fe333333333332e) 0x3fe9999999999998 (least - 1) (Refused 25 0)
     ∷ pair 0x3fe3333333333333 (sign + 0x3fe999999999999f) most Passed
     ∷ pair 0x3fe3333333333333 (sign + 0x3fe99999999999a0) (most + 1) (Refused 25 0)
-    -- at each bound, and a step beyond it with one rounding of the exact squares; and the other way round
+    -- with one rounding of the exact sum the first two would be refused, and the third would pass
     ∷ pair 0x3fe333333333332b 0x3fe999999999999a least Passed
     ∷ pair 0x3fe3333333333339 0x3fe999999999999b most Passed
     ∷ pair 0x3fe333333333333a 0x3fe999999999999a (most + 1) (Refused 25 0)

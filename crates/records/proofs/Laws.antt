@@ -18,7 +18,7 @@ use borrow.Author.Tests.{ltb-false, eqb-true}
 use Rattle.records.specs.declared.Instruction.{Instruction}
 use Rattle.records.specs.Record.{word_of, kind, width, phase, angle, sine, cosine, flag, record_at, records_of, instruction_of, instructions_of}
 use Rattle.records.specs.Pass.{Checked, Passed, Refused, one, minus_one, within, within_one, action_number, floats_number, sums_to_one, squares_number, or_else, rotation_number, promotion_number, measurement_number, numbers_by_kind, number_of, coordinates_after, refused_or, pass_from, record_pass}
-use Rattle.records.specs.Sound.{InUnitRange, SoundAction, SoundRotation, SoundMeasurement, Sound, coordinates_through, Refusal}
+use Rattle.records.specs.Sound.{InUnitRange, SoundAction, SoundRotation, SoundMeasurement, Sound, coordinates_through, PassNumber, Refusal}
 use Rattle.records.proofs.Words.{records_length, records-at}
 use Rattle.records.proofs.Pairs.{pair_sound}
 use Rattle.records.proofs.Steps.{pass_start, cond-true, cond-false, room}
@@ -167,10 +167,6 @@ instruction_at ws i d h =
 
 -- ---- a refusal
 
--- a refusal's number
-abbrev OneOf : ℕ → Type 0
-OneOf n = ((5 ≤ n) × (n ≤ 10)) ⊎ (n ≡ 25)
-
 -- 0, which passes, or a refusal's number
 abbrev allowed : ℕ → Bool
 allowed n = eqb n 0 || ((leb 5 n && leb n 10) || eqb n 25)
@@ -212,10 +208,10 @@ number_allowed c r =
     )
     tt
 
-range : (n : ℕ) → T (allowed n) → (n ≡ 0 → ⊥) → OneOf n
+range : (n : ℕ) → T (allowed n) → (n ≡ 0 → ⊥) → PassNumber n
 range n t h = go (eqb n 0) refl (leb 5 n && leb n 10) refl t
   where
-    go : (b : Bool) → eqb n 0 ≡ b → (d : Bool) → (leb 5 n && leb n 10) ≡ d → T (b || (d || eqb n 25)) → OneOf n
+    go : (b : Bool) → eqb n 0 ≡ b → (d : Bool) → (leb 5 n && leb n 10) ≡ d → T (b || (d || eqb n 25)) → PassNumber n
     go true e d f t = absurd (h (eqb-true n 0 e))
     go false e true f t =
         let u : T (leb 5 n && leb n 10) = subst T (sym f) tt in
@@ -228,15 +224,15 @@ unfolding refused_or
 which zero i rest m j e = inr e
 which (suc n) i rest m j e = inl ((cc), (cc), suc-ne-zero n)
 
-refused_from : (rs : List (List ℕ)) (i c m j : ℕ) → pass_from i c rs ≡ Refused m j → OneOf m × (j < i + length rs)
+refused_from : (rs : List (List ℕ)) (i c m j : ℕ) → pass_from i c rs ≡ Refused m j → PassNumber m × (j < i + length rs)
 unfolding pass_from
 refused_from [] i c m j e = let z : ◌≡◌ {A = ℕ} 0 1 = cc in absurd (suc-ne-zero 0 (sym z))
 refused_from (r ∷ rs) i c m j e = go (which (number_of c r) i (pass_from (suc i) (coordinates_after c r) rs) m j e) (refused_from rs (suc i) (coordinates_after c r) m j)
   where
     go : ((m ≡ number_of c r) × (j ≡ i) × (number_of c r ≡ 0 → ⊥)) ⊎ (pass_from (suc i) (coordinates_after c r) rs ≡ Refused m j)
-        → (pass_from (suc i) (coordinates_after c r) rs ≡ Refused m j → OneOf m × (j < suc i + length rs))
-        → OneOf m × (j < i + suc (length rs))
-    go (inl f) later = (subst OneOf (sym f.0) (range (number_of c r) (number_allowed c r) f.2), omega (arith, f.1))
+        → (pass_from (suc i) (coordinates_after c r) rs ≡ Refused m j → PassNumber m × (j < suc i + length rs))
+        → PassNumber m × (j < i + suc (length rs))
+    go (inl f) later = (subst PassNumber (sym f.0) (range (number_of c r) (number_allowed c r) f.2), omega (arith, f.1))
     go (inr g) later =
         let b = later g in
         (b.0, omega (arith, b.1))
@@ -245,4 +241,4 @@ refused_from (r ∷ rs) i c m j e = go (which (number_of c r) i (pass_from (suc 
 pub refused_in : (k : ℕ) (ws : List ℕ) (n i : ℕ) → record_pass k ws ≡ Refused n i → Refusal ws n i
 refused_in k ws n i e =
     let b = refused_from (records_of ws) 0 k n i (sym (pass_start k ws) ∙ e) in
-    record { number_one_of = b.0; index_below = omega (arith, b.1, records_length ws) }
+    record { number_of_pass = b.0; index_below = omega (arith, b.1, records_length ws) }

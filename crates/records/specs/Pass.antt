@@ -14,7 +14,7 @@ one = fin Bool.false 1 (pos 0)
 abbrev pub minus_one : Float
 minus_one = fin Bool.true 1 (pos 0)
 
--- from the one to the other, both included; a NaN is not (`le` is false there)
+-- from low to high, both included; a NaN is not (`le` is false there)
 unfoldable pub within : (low high x : Float) → Bool
 within low high x = le low x && le x high
 

@@ -52,7 +52,11 @@ abbrev pub coordinates_through : (coordinates : ℕ) → List (List ℕ) → ℕ
 coordinates_through coordinates [] = coordinates
 coordinates_through coordinates (r ∷ rs) = coordinates_through (coordinates_after coordinates r) rs
 
+-- the pass's numbers: 5 to 10, and 25
+abbrev pub PassNumber : ℕ → Type 0
+PassNumber number = ((5 ≤ number) × (number ≤ 10)) ⊎ (number ≡ 25)
+
 -- a refusal of the words, by its number and its record's index
 pub record Refusal (ws : List ℕ) (number index : ℕ) : Type 0 where
-  pub number_one_of : ((5 ≤ number) × (number ≤ 10)) ⊎ (number ≡ 25)
+  pub number_of_pass : PassNumber number
   pub index_below : index < length ws / 8

@@ -170,7 +170,7 @@ pub fn read(words: &[u64], i: usize) -> Instruction
     read_record(record_at(words, i))
 }
 
-// Whether x is from the one to the other, both included.
+// Whether x is from low to high, both included.
 fn within(low: f64, high: f64, x: f64) -> bool
     ensures { result ≡ within low high x }
 {

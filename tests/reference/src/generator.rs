@@ -1,9 +1,10 @@
 //! Programs for the oracle and for the comparison: random ones, the same for the same seed,
 //! and complete lists over small alphabets; at the ceiling 62, and under others.
 //!
-//! The random ones reach every refusal of docs/01-scope.md, 1 to 20, 02's 25, and plans with all six
-//! kinds of record, selected and not, of each mark of the whole works. Rotations carry Rust's
-//! own sines and cosines, but for those that are refused for theirs.
+//! The random ones reach every refusal of docs/01-scope.md, 1 to 20, and 02's 25, and plans with
+//! all six kinds of record, selected and not, of each mark of the whole works. Rotations carry
+//! Rust's own sines and cosines, but for those that are refused for theirs, and those at a bound of
+//! 25, which stand in front of a record that the record pass refuses.
 
 mod around;
 mod ceilings;

@@ -1,4 +1,6 @@
-//! What the Rust takes from this machine, tried before anything is answered.
+//! What the Rust takes from this machine, tried before anything is answered; and its processors.
+
+use std::thread;
 
 /// 01 reads exp2 as the exact power of two; the Rust takes it from this machine, which
 /// is tried here for every exponent that planning can ask for.
@@ -10,4 +12,18 @@ pub fn check_exact_powers() -> Result<(), String> {
         }
     }
     Ok(())
+}
+
+/// Does this work on as many threads as the machine has processors; what each of them gives.
+pub fn on_all_processors<T: Send>(
+    work: impl Fn() -> Result<T, String> + Sync,
+) -> Result<Vec<T>, String> {
+    let threads = thread::available_parallelism().map_or(1, |count| count.get());
+    thread::scope(|scope| {
+        let begun: Vec<_> = (0..threads).map(|_| scope.spawn(&work)).collect();
+        begun
+            .into_iter()
+            .map(|worker| worker.join().map_err(|_| "a thread ended early")?)
+            .collect()
+    })
 }

@@ -92,7 +92,7 @@ fn wanted_under_ceilings() -> Vec<usize> {
     wanted
 }
 
-/// The place of an answer among what is wanted; refusal 24 has none, and 25 the last of a refusal.
+/// The place of an answer among what is wanted: 25 stands behind 20, and refusal 24 has none.
 fn place(expected: &Expected) -> Option<usize> {
     let [_, selected, .., mark, dense, _, _, _] = expected.result;
     match (expected.number as usize, mark) {

@@ -9,10 +9,10 @@
 use std::f64::consts::FRAC_PI_4;
 use std::process::ExitCode;
 use std::sync::atomic::{AtomicU64, Ordering};
-use std::thread;
 
 use midvokt::{Buffers, Head, LARGEST_CEILING, Lengths, MOST_RECORDS, plan_into};
 use midvokt_reference::generator::{Numbers, rotation_words};
+use midvokt_reference::machine::on_all_processors;
 
 /// All records are of one coordinate.
 const HEAD: Head = Head {
@@ -50,9 +50,12 @@ fn finite_angle(random: &mut Numbers) -> f64 {
     }
 }
 
-/// The range with one sum more.
-fn wider(range: Range, sum: f64) -> Range {
-    (range.0.min(sum), range.1.max(sum))
+/// The range of no sums.
+const NONE: Range = (f64::INFINITY, f64::NEG_INFINITY);
+
+/// The range of the sums of both.
+fn both(one: Range, other: Range) -> Range {
+    (one.0.min(other.0), one.1.max(other.1))
 }
 
 /// The buffers for a whole program of rotations.
@@ -66,11 +69,12 @@ fn memory() -> [Vec<u64>; 7] {
 fn program(seed: u64, index: u64, words: &mut [Vec<u64>; 7]) -> Result<Range, String> {
     let mut random = Numbers::new(seed, index);
     let mut records = Vec::with_capacity(8 * MOST_RECORDS);
-    let mut range = (f64::INFINITY, f64::NEG_INFINITY);
+    let mut range = NONE;
     for _ in 0..MOST_RECORDS {
         let record = rotation_words(finite_angle(&mut random));
         let [sine, cosine] = [record[6], record[7]].map(f64::from_bits);
-        range = wider(range, sine * sine + cosine * cosine);
+        let sum = sine * sine + cosine * cosine;
+        range = both(range, (sum, sum));
         records.extend(record);
     }
     let mut buffers = Buffers::from(words.each_mut().map(Vec::as_mut_slice));
@@ -86,32 +90,21 @@ fn program(seed: u64, index: u64, words: &mut [Vec<u64>; 7]) -> Result<Range, St
 /// Programs until none is left.
 fn work(seed: u64, programs: u64, next: &AtomicU64) -> Result<Range, String> {
     let mut words = memory();
-    let mut range = (f64::INFINITY, f64::NEG_INFINITY);
+    let mut range = NONE;
     loop {
         let index = next.fetch_add(1, Ordering::Relaxed);
         if index >= programs {
             return Ok(range);
         }
-        let found = program(seed, index, &mut words)?;
-        range = wider(wider(range, found.0), found.1);
+        range = both(range, program(seed, index, &mut words)?);
     }
 }
 
 /// All programs, on as many threads as the machine has processors.
 fn all(seed: u64, programs: u64) -> Result<Range, String> {
     let next = AtomicU64::new(0);
-    let threads = thread::available_parallelism().map_or(1, |count| count.get());
-    thread::scope(|scope| {
-        let begun: Vec<_> = (0..threads)
-            .map(|_| scope.spawn(|| work(seed, programs, &next)))
-            .collect();
-        let mut range = (f64::INFINITY, f64::NEG_INFINITY);
-        for worker in begun {
-            let found = worker.join().map_err(|_| "a thread ended early")??;
-            range = wider(wider(range, found.0), found.1);
-        }
-        Ok(range)
-    })
+    let found = on_all_processors(|| work(seed, programs, &next))?;
+    Ok(found.into_iter().fold(NONE, both))
 }
 
 /// A float with how far it is from 1, in floats, and its bits.

@@ -34,11 +34,10 @@ mod wanted;
 
 use std::process::ExitCode;
 use std::sync::atomic::{AtomicU64, Ordering};
-use std::thread;
 
 use compare::Comparison;
 use inputs::Inputs;
-use midvokt_reference::machine;
+use midvokt_reference::machine::{self, on_all_processors};
 use tally::Tally;
 
 /// Programs that a thread takes at a time.
@@ -107,17 +106,10 @@ fn work(inputs: &Inputs, spoiled: Option<u64>, next: &AtomicU64) -> Result<Tally
 /// Compares all programs, on as many threads as the machine has processors.
 fn compare_all(inputs: &Inputs, spoiled: Option<u64>) -> Result<Tally, String> {
     let next = AtomicU64::new(0);
-    let threads = thread::available_parallelism().map_or(1, |count| count.get());
-    thread::scope(|scope| {
-        let begun: Vec<_> = (0..threads)
-            .map(|_| scope.spawn(|| work(inputs, spoiled, &next)))
-            .collect();
-        let mut total = Tally::default();
-        for worker in begun {
-            total.add(worker.join().map_err(|_| "a thread ended early")??);
-        }
-        Ok(total)
-    })
+    let found = on_all_processors(|| work(inputs, spoiled, &next))?;
+    let mut total = Tally::default();
+    found.into_iter().for_each(|tally| total.add(tally));
+    Ok(total)
 }
 
 /// Compares the programs at the ceiling 62; true where nothing differs and nothing is missing.
