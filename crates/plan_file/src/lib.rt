@@ -12,7 +12,7 @@ use answer::ActiveComponentPlan;
 use file_words::put_words;
 use outputs::WordCounts;
 use outputs::buffers::fill_from;
-use rows::float_bits;
+use records::float_bits;
 
 // The words that a file keeps of each of the first six outputs.
 // Kept: no one generic struct with `StoredOutputs` and `WordCounts`, which have the same six names: one is written through, one is

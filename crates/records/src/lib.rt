@@ -4,7 +4,7 @@
 
 ghost use Rattle.std.specs.Prelude.{◌≡◌, ◌&&◌};
 ghost use Rattle.std.specs.Float.{binary64};
-ghost use Rattle.std.specs.Float.Ieee.{of_bits};
+ghost use Rattle.std.specs.Float.Ieee.{of_bits, to_bits};
 ghost use Rattle.std.specs.Float.Ieee.Scale.{finite};
 ghost use Rattle.refusals.specs.Answer.{number_or_0};
 ghost use Rattle.records.specs.Record.{word_of, record_at, instruction_of, measurement_of};
@@ -116,6 +116,17 @@ pub fn float_of(bits: u64) -> f64
     }
 }
 
+// The bits of a float. A NaN has one pattern.
+pub fn float_bits(x: f64) -> u64
+    ensures { result ≡ to_bits binary64 x }
+{
+    if x.is_nan() {
+        0x7ff8_0000_0000_0000
+    } else {
+        x.to_bits()
+    }
+}
+
 // The float of word j of a record.
 fn float_word(fields: &[u64], j: usize) -> f64
     ensures { result ≡ of_bits binary64 (word_of fields.now j) }
@@ -171,7 +182,7 @@ pub fn read(words: &[u64], i: usize) -> Instruction
 }
 
 // Whether x is from low to high, both included.
-fn within(low: f64, high: f64, x: f64) -> bool
+pub fn within(low: f64, high: f64, x: f64) -> bool
     ensures { result ≡ within low high x }
 {
     low <= x && x <= high

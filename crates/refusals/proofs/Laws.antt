@@ -5,7 +5,7 @@ use Prim.Native.Nat.{◌<◌}
 use native.Mathlib.Omega.{arith}
 use Rattle.refusals.specs.Numbers.{number_of}
 use Rattle.refusals.specs.declared.Reason.{Reason}
-use Rattle.refusals.specs.declared.Reason.TheVariants.{MaxK, RecordWords, Buffers, InitialK, Kind, Width, Phase, Floats, Flag, Promotion, RotationWidth, MeasurementWidth, NothingActive, ComponentSize, Pivot, PivotComponent, PivotX, PivotZ, Eigenvalues, Identity, File, Sections, Lengths, Ceiling, Squares}
+use Rattle.refusals.specs.declared.Reason.TheVariants.{MaxK, RecordWords, Buffers, InitialK, Kind, Width, Phase, Floats, Flag, Promotion, RotationWidth, MeasurementWidth, NothingActive, ComponentSize, Pivot, PivotComponent, PivotX, PivotZ, Eigenvalues, Identity, File, Sections, Lengths, Ceiling, Squares, Form, Prefix, Generator}
 
 pub positive : (r : Reason) → 0 < number_of r
 positive MaxK = omega arith
@@ -33,6 +33,9 @@ positive Sections = omega arith
 positive Lengths = omega arith
 positive Ceiling = omega arith
 positive Squares = omega arith
+positive Form = omega arith
+positive Prefix = omega arith
+positive Generator = omega arith
 
 -- what `?` tells of an answer, that it is a refusal and which, as one equation
 pub err_is : {A E : Type 0} (r : Result A E) (x : E) → IsErrAnd r (λ e. e ≡ x) → r ≡ Err x

@@ -1,8 +1,8 @@
--- The number of each reason for a refusal: 01, "Where planning stops", 1 to 20; 02, CR 2, 21 to 23, CR 4, 24, and CR 5, 25.
+-- The number of each reason for a refusal: 01, "Where planning stops", 1 to 20; 02, CR 2, 21 to 23, CR 4, 24, CR 5, 25, and CR 6, 26 to 28.
 use Rattle.std.specs.Prelude.{ℕ, List, ◌++◌, codes, decimal}
 use Rattle.refusals.specs.declared.Reason.{Reason}
 use Rattle.refusals.specs.declared.Refusal.{Refusal}
-use Rattle.refusals.specs.declared.Reason.TheVariants.{MaxK, RecordWords, Buffers, InitialK, Kind, Width, Phase, Floats, Flag, Promotion, RotationWidth, MeasurementWidth, NothingActive, ComponentSize, Pivot, PivotComponent, PivotX, PivotZ, Eigenvalues, Identity, File, Sections, Lengths, Ceiling, Squares}
+use Rattle.refusals.specs.declared.Reason.TheVariants.{MaxK, RecordWords, Buffers, InitialK, Kind, Width, Phase, Floats, Flag, Promotion, RotationWidth, MeasurementWidth, NothingActive, ComponentSize, Pivot, PivotComponent, PivotX, PivotZ, Eigenvalues, Identity, File, Sections, Lengths, Ceiling, Squares, Form, Prefix, Generator}
 
 abbrev pub number_of : Reason → ℕ
 number_of MaxK = 1
@@ -30,6 +30,9 @@ number_of Sections = 22
 number_of Lengths = 23
 number_of Ceiling = 24
 number_of Squares = 25
+number_of Form = 26
+number_of Prefix = 27
+number_of Generator = 28
 
 -- the words in which a program tells a refusal
 abbrev pub told : Refusal → List ℕ

@@ -60,6 +60,12 @@ pub enum Reason {
     Ceiling,
     // The squares of sine and cosine do not sum to 1.
     Squares,
+    // A list of pending operations outside its form or its limits, or an output too short for it.
+    Form,
+    // A preserved prefix beyond the list.
+    Prefix,
+    // A pending rotation about a string that is not Hermitian.
+    Generator,
 }
 
 // A refusal's reason and its record's index, 0 for one of the head, the buffers or a file.
@@ -100,6 +106,9 @@ impl Reason {
             Reason::Lengths => 23,
             Reason::Ceiling => 24,
             Reason::Squares => 25,
+            Reason::Form => 26,
+            Reason::Prefix => 27,
+            Reason::Generator => 28,
         }
     }
 

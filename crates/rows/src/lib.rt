@@ -12,6 +12,7 @@ use kernels::active::{
     ActivePauliAction, PrecomputedActivePauliMeasurementKernel,
     PrecomputedActivePauliRotationKernel,
 };
+use records::float_bits;
 
 // A row: how many words it has, which words they are, and how they are written.
 pub trait Row: Copy {
@@ -83,17 +84,6 @@ impl From<StepKind> for u64 {
             StepKind::Promotion => 3,
             StepKind::Measurement => 4,
         }
-    }
-}
-
-// The bits of a float. A NaN has one pattern.
-pub fn float_bits(x: f64) -> u64
-    ensures { result ≡ bits_word x }
-{
-    if x.is_nan() {
-        0x7ff8_0000_0000_0000
-    } else {
-        x.to_bits()
     }
 }
 
