@@ -1,0 +1,90 @@
+-- The form of a list of pending operations: what 26 asks, in 02, CR 6: "A list or operation outside this form or these limits, mask bits at or above the width,
+-- or an output too short for the list or the map gives 26 first of all".
+use Rattle.std.specs.Prelude.{ℕ, ◌-◌, ◌*◌, ◌/◌, ◌%◌, ◌^◌, List, [], ◌∷◌, Bool, true, false, cond, ◌&&◌, ◌||◌, leb, ltb, eqb, length, get_or, drop, pos, Float}
+use Rattle.std.specs.List.{list_all}
+use Rattle.std.specs.Float.{fin, binary64}
+use Rattle.std.specs.Float.Ieee.{of_bits, le}
+use Rattle.records.specs.Pass.{within}
+use Rattle.pending.specs.Operation.{Operation, operations_of, word, words_from, kind}
+
+-- "at most 1,024 operations"
+abbrev pub most_operations : ℕ
+most_operations = 1024
+
+-- "and 1,024 preserved prefixes"
+abbrev pub most_prefixes : ℕ
+most_prefixes = 1024
+
+-- the Rust's fields of 32 bits hold no more
+abbrev pub most_number : ℕ
+most_number = 2 ^ 31 - 1
+
+-- 2^20 and -2^20: `fin s m e` is m * 2 ^ e, negative where s is true
+abbrev pub most_angle : Float
+most_angle = fin false 1 (pos 20)
+
+abbrev pub least_angle : Float
+least_angle = fin true 1 (pos 20)
+
+-- "angles lie from -2^20 to 2^20, both included"; a NaN does not
+abbrev pub angle_fits : ℕ → Bool
+angle_fits bits = within least_angle most_angle (of_bits binary64 bits)
+
+-- no bit at or above the width
+abbrev pub mask_fits : (width : ℕ) → ℕ → Bool
+mask_fits width mask = ltb mask (2 ^ width)
+
+-- "phases are 0 to 3"
+unfoldable pub string_fits : (width x z phase : ℕ) → Bool
+string_fits width x z phase = mask_fits width x && (mask_fits width z && leb phase 3)
+
+-- a condition that is used is "positive, strictly ascending", and one that is not is 0; `left` says how many are still used, from this one on
+abbrev pub condition_fits : (left last condition : ℕ) → Bool
+condition_fits left last c = cond (eqb left 0) (eqb c 0) (ltb last c && leb c most_number)
+
+-- all conditions, the first `left` of them used and above the last one
+abbrev pub conditions_fit : (left last : ℕ) → List ℕ → Bool
+conditions_fit left last [] = true
+conditions_fit left last (c ∷ cs) = condition_fits left last c && conditions_fit (left - 1) c cs
+
+-- "sign: constant 0 or 1, count, eight conditions, unused ones 0"
+unfoldable pub sign_fits : List ℕ → Bool
+sign_fits s = leb (get_or s 0 0) 1 && (leb (get_or s 1 0) 8 && conditions_fit (get_or s 1 0) 0 (drop 2 s))
+
+-- an Option's flag and value
+unfoldable pub option_fits : (flag value : ℕ) → Bool
+option_fits flag value = leb flag 1 && (leb value most_number && (eqb flag 1 || eqb value 0))
+
+-- "then zeros"
+abbrev pub all_zero : List ℕ → Bool
+all_zero ws = list_all (λ w. eqb w 0) ws
+
+unfoldable pub rotation_fits : (width : ℕ) → Operation → Bool
+rotation_fits width o =
+    angle_fits (word o 1) && (string_fits width (word o 2) (word o 3) (word o 4) && (sign_fits (words_from o 5 10) && all_zero (drop 15 o)))
+
+unfoldable pub measurement_fits : (width : ℕ) → Operation → Bool
+measurement_fits width o =
+    string_fits width (word o 1) (word o 2) (word o 3)
+    && (sign_fits (words_from o 4 10)
+    && (option_fits (word o 14) (word o 15)
+    && (option_fits (word o 16) (word o 17) && (option_fits (word o 18) (word o 19) && all_zero (drop 20 o)))))
+
+unfoldable pub record_fits : Operation → Bool
+record_fits o =
+    sign_fits (words_from o 1 10)
+    && (option_fits (word o 11) (word o 12) && (option_fits (word o 13) (word o 14) && all_zero (drop 15 o)))
+
+-- by kind; there is none above 2
+unfoldable pub operation_fits : (width : ℕ) → Operation → Bool
+operation_fits width o = get_or (rotation_fits width o ∷ measurement_fits width o ∷ record_fits o ∷ []) (kind o) false
+
+-- a whole call: "all strings have one width of 1 to 64"
+unfoldable pub form_fits : (width : ℕ) (words prefixes : List ℕ) (optimized_len map_len : ℕ) → Bool
+unfolding operations_of operation_fits rotation_fits measurement_fits record_fits string_fits sign_fits option_fits within of_bits le
+form_fits width words prefixes optimized_len map_len =
+    leb 1 width && (leb width 64
+    && (eqb (length words % 32) 0 && (leb (length words) (32 * most_operations)
+    && (leb (length prefixes) most_prefixes
+    && (leb (length words) optimized_len && (ltb (length words / 32) map_len
+    && list_all (operation_fits width) (operations_of words)))))))

@@ -1,0 +1,3 @@
+pub mod Operation
+pub mod Form
+pub mod Examples

@@ -1,0 +1,99 @@
+-- A pending operation as its words. Written from 02, CR 6: "An operation is 32 words: its kind's place in the Rust's list, from 0, its fields in the Rust's
+-- order (string: x, z, phase; sign: constant 0 or 1, count, eight conditions, unused ones 0; floats as bits), then zeros". The Rust's list has rotations,
+-- measurements and classical records. A rotation's fields are angle, string and sign; a measurement's string, sign, record, record_condition and exp_val; a
+-- classical record's outcome, which is a sign, record and record_condition. An Option is two words: 0, 0 or 1, value.
+use Rattle.std.specs.Prelude.{ℕ, suc, ◌+◌, ◌*◌, ◌/◌, ◌%◌, List, Bool, cond, ◌&&◌, ltb, eqb, length, get_or, take, drop, Float}
+use Rattle.std.specs.Int.Bits.{bit_and}
+use Rattle.std.specs.Int.Count.{ones_in}
+use Rattle.std.specs.Float.{binary64}
+use Rattle.std.specs.Float.Ieee.{of_bits}
+use Rattle.std.specs.Simd.{first_chunks}
+
+abbrev pub Operation : Type 0
+Operation = List ℕ
+
+-- the whole operations in a list's words, in order
+unfoldable pub operations_of : List ℕ → List Operation
+operations_of words = first_chunks 32 (length words / 32) words
+
+-- word j of an operation, and 0 where there is none
+abbrev pub word : Operation → ℕ → ℕ
+word o j = get_or o j 0
+
+-- n words of an operation, from word j on
+abbrev pub words_from : Operation → ℕ → ℕ → List ℕ
+words_from o j n = take n (drop j o)
+
+-- ---- kinds
+
+abbrev pub kind : Operation → ℕ
+kind o = word o 0
+
+abbrev pub is_rotation : Operation → Bool
+is_rotation o = eqb (kind o) 0
+
+abbrev pub is_measurement : Operation → Bool
+is_measurement o = eqb (kind o) 1
+
+-- "exp_val may be 0, so 0 alone cannot mean none": its flag is word 18
+abbrev pub is_expectation : Operation → Bool
+is_expectation o = is_measurement o && eqb (word o 18) 1
+
+-- ---- Pauli strings
+
+-- rotations and measurements have one
+abbrev pub has_string : Operation → Bool
+has_string o = ltb (kind o) 2
+
+-- the word where it begins: behind a rotation's angle, and behind a measurement's kind
+abbrev pub string_at : Operation → ℕ
+string_at o = cond (is_rotation o) 2 1
+
+abbrev pub x_of : Operation → ℕ
+x_of o = word o (string_at o)
+
+abbrev pub z_of : Operation → ℕ
+z_of o = word o (suc (string_at o))
+
+-- two strings commute: the overlaps of x with z and of z with x are even in number, taken together
+unfoldable pub commute : (x z x' z' : ℕ) → Bool
+unfolding ones_in
+commute x z x' z' = eqb ((ones_in 64 (bit_and x z') + ones_in 64 (bit_and z x')) % 2) 0
+
+abbrev pub strings_commute : Operation → Operation → Bool
+strings_commute a b = commute (x_of a) (z_of a) (x_of b) (z_of b)
+
+abbrev pub same_string : Operation → Operation → Bool
+same_string a b = eqb (x_of a) (x_of b) && eqb (z_of a) (z_of b)
+
+-- ---- a rotation's fields
+
+abbrev pub angle_of : Operation → Float
+angle_of o = of_bits binary64 (word o 1)
+
+abbrev pub phase_of : Operation → ℕ
+phase_of o = word o 4
+
+abbrev pub constant_of : Operation → ℕ
+constant_of o = word o 5
+
+-- count and conditions, unused ones too, which are 0
+abbrev pub conditions_of : Operation → List ℕ
+conditions_of o = words_from o 6 9
+
+-- how many Y the string has: places with both x and z
+unfoldable pub y_count : Operation → ℕ
+unfolding ones_in
+y_count o = ones_in 64 (bit_and (x_of o) (z_of o))
+
+-- the phase less the number of Y, modulo 4; three times a number is its negative there
+abbrev pub coefficient : Operation → ℕ
+coefficient o = (phase_of o + 3 * y_count o) % 4
+
+-- "a non-Hermitian rotation": that is odd, so that the string's coefficient is not real
+abbrev pub is_hermitian : Operation → Bool
+is_hermitian o = eqb (coefficient o % 2) 0
+
+-- the sign's constant with the string's own sign in it, which is minus where the coefficient is 2
+abbrev pub whole_sign : Operation → ℕ
+whole_sign o = (constant_of o + coefficient o / 2) % 2
