@@ -1,0 +1,12 @@
+pub mod Answered
+pub mod Lists
+pub mod Likeness
+pub mod Carrying
+pub mod Fusing
+pub mod Moving
+pub mod Segments
+pub mod Boundaries
+pub mod Claimed
+pub mod Turns
+pub mod Swaps
+pub mod Further
