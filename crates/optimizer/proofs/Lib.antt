@@ -1,0 +1,13 @@
+pub mod Laws
+pub mod Turned
+pub mod Reaching
+pub mod Carrying
+pub mod FuseTurns
+pub mod MoveTurns
+pub mod Segmenting
+pub mod Parts
+pub mod Coming
+pub mod Unmarked
+pub mod Judging
+pub mod Holding
+pub mod Left

@@ -1,0 +1,3 @@
+pub mod Working
+pub mod Answer
+pub mod Laws
