@@ -14,7 +14,10 @@ use Rattle.answer.specs.declared.ActiveComponentPlan.{ActiveComponentPlan}
 use Rattle.answer.specs.Outcome.{outcome_of}
 use Rattle.store.specs.Storing as Storing
 use Rattle.midvokt.specs.Reply.{number_of, number_in, laid_out}
+use Rattle.optimizer.specs.declared.Counts.{Counts}
+use Rattle.optimizer.specs.Answer.{told_of}
 use Rattle.midvokt.specs.Stored.{store_number}
+use Rattle.midvokt.specs.Optimized.{optimize_number}
 
 -- past the last word
 zeros : (g : ℕ → ℕ) (a n : ℕ) → ((i : ℕ) → g (a + i) ≡ 0) → map g (numbers_from a n) ≡ replicate n 0
@@ -64,3 +67,8 @@ plan_told (Err refusal) = refl
 pub store_told : (r : Answered ℕ Refusal) → number_in r ≡ store_number (Storing.outcome_of r)
 store_told (Ok n) = refl
 store_told (Err refusal) = refl
+
+-- and that of an optimizing call
+pub optimize_told : (r : Answered Counts Refusal) → number_in r ≡ optimize_number (told_of r)
+optimize_told (Ok counts) = refl
+optimize_told (Err refusal) = refl

@@ -1,2 +1,3 @@
 pub mod Reply
 pub mod Stored
+pub mod Optimized

@@ -1,7 +1,8 @@
-// The library's calls: plain words in and out. Planning stands here, storing and reading plans in `stored`. The crate `midvokt_c`
-// exports them, as C and Rust link them; include/midvokt.h has the declarations.
+// The library's calls: plain words in and out. Planning stands here, storing and reading plans in `stored`, optimizing pending
+// operations in `optimizing`. The crate `midvokt_c` exports them, as C and Rust link them; include/midvokt.h has the declarations.
 #![tactic(auto)]
 
+pub mod optimizing;
 pub mod stored;
 
 ghost use Rattle.std.specs.Prelude.{◌≡◌, length, Ok};

@@ -3,9 +3,11 @@
 #![tactic(auto)]
 
 ghost use Rattle.midvokt.specs.Reply.{Replies};
+ghost use Rattle.midvokt.specs.Optimized.{OptimizeReplies};
 ghost use Rattle.midvokt.specs.Stored.{StoreReplies, LoadReplies};
 
 use midvokt::midvokt_plan as plan_call;
+use midvokt::optimizing::midvokt_optimize as optimize_call;
 use midvokt::stored::{midvokt_load as load_call, midvokt_store as store_call};
 
 // Plans a program into the seven buffers and the result; 0, or the refusal's number.
@@ -109,4 +111,20 @@ pub extern "C" fn midvokt_load(
         measurements,
         res,
     )
+}
+
+// Optimizes a list of pending operations into the lent list, map and result; 0, or the refusal's number.
+// Kept: C's words and slices, one by one.
+#[unsafe(no_mangle)]
+pub extern "C" fn midvokt_optimize(
+    width: u64,
+    operations: &[u64],
+    prefixes: &[u64],
+    optimized: &mut [u64],
+    map: &mut [u64],
+    res: &mut [u64],
+) -> u64
+    ensures { OptimizeReplies width operations.now prefixes.now optimized.old optimized.new map.old map.new res.old res.new result }
+{
+    optimize_call(width, operations, prefixes, optimized, map, res)
 }
