@@ -3,85 +3,17 @@
 // and describes them.
 #![tactic(auto)]
 
-ghost use Rattle.std.specs.Prelude.{◌≡◌, ◌≤◌, true, length, OnOk, IfOk};
-ghost use Rattle.definition.specs.Plan.{padded};
+ghost use Rattle.std.specs.Prelude.{OnOk};
 ghost use Rattle.replay.specs.Head.{HasRoom};
 
 use midvokt::midvokt_plan;
 use std::alloc::{AllocError, Global};
-use std::io::{BufReader, ErrorKind, Read};
-use std::{fmt, io};
+use std::io;
+use std::io::{BufReader, Read};
+use vectors::{ReplayError, Vector, buffer_agrees, holds, read_word, read_words, replay_vectors};
 
 // The most words that the records or a buffer may have.
 const LONGEST: u64 = 4096;
-
-// Why a vector is not read.
-#[derive(Debug, Drop)]
-enum ReplayError {
-    TooLong,
-    CutShort,
-    Io(io::Error),
-}
-
-impl fmt::Display for ReplayError {
-    fn fmt<W: fmt::Write>(&self, f: &mut fmt::Formatter<W>) -> fmt::Result {
-        match self {
-            ReplayError::TooLong => write!(f, "too long"),
-            ReplayError::CutShort => write!(f, "the list ends"),
-            ReplayError::Io(error) => write!(f, "{error}"),
-        }
-    }
-}
-
-impl From<io::Error> for ReplayError {
-    fn from(error: io::Error) -> ReplayError {
-        if error.kind() == ErrorKind::UnexpectedEof {
-            ReplayError::CutShort
-        } else {
-            ReplayError::Io(error)
-        }
-    }
-}
-
-impl From<AllocError> for ReplayError {
-    fn from(error: AllocError) -> ReplayError {
-        ReplayError::Io(io::Error::from(error))
-    }
-}
-
-// Reads a word of eight bytes, the lowest first.
-fn read_word(input: &mut impl Read) -> Result<u64, ReplayError> {
-    let mut bytes = [0u8; 8];
-    input.read_exact(&mut bytes)?;
-    Ok(u64::from_le_bytes(bytes))
-}
-
-// Reads so many words.
-fn read_words(alloc: Global, input: &mut impl Read, count: u64) -> Result<Vec<u64>, ReplayError>
-    ensures { IfOk result (λ words. length words.items ≡ count) }
-{
-    let mut words = vec![in alloc; 0u64; count as usize]?;
-    for word in words.iter_mut() {
-        *word = read_word(input)?;
-    }
-    Ok(words)
-}
-
-// Whether a buffer holds the used words and zeros behind them, and nothing else.
-fn holds(buffer: &[u64], used: &[u64]) -> bool
-    ensures { (result ≡ true → buffer.now ≡ padded (length buffer.now) used.now)
-        × (buffer.now ≡ padded (length buffer.now) used.now → result ≡ true) }
-{
-    if buffer.len() < used.len() {
-        return false;
-    }
-    for (at, word) in buffer.iter().enumerate() {
-        if *word != used.get(at).copied().unwrap_or(0) {
-            return false;
-        }
-    }
-    true
-}
 
 // Refuses a head by which the records or a buffer are too long.
 // Kept: the head is an array: it is read in one loop, and its last eight words are held to the limit in another; a struct of
@@ -95,20 +27,6 @@ fn check_lengths(head: &[u64; 12]) -> Result<(), ReplayError>
         }
     }
     Ok(())
-}
-
-// Reads what a buffer should hold, and compares.
-fn buffer_agrees(
-    alloc: Global,
-    input: &mut impl Read,
-    buffer: &[u64],
-) -> Result<bool, ReplayError> {
-    let count = read_word(input)?;
-    if LONGEST < count {
-        return Err(ReplayError::TooLong);
-    }
-    let used = read_words(alloc, input, count)?;
-    Ok(holds(buffer, &used))
 }
 
 // Reads the number and the words that the call should give, and compares.
@@ -201,38 +119,19 @@ fn replay_next(alloc: Global, input: &mut impl Read) -> Result<bool, ReplayError
     Ok(buffers.agree(alloc, input)? && answer)
 }
 
-// Replays that many vectors, up to the first that cannot be read, and prints how many agree.
-fn replay_all(rt: &impl Print, alloc: Global, input: &mut impl Read, count: u64) -> io::Result<()> {
-    let mut agree: u64 = 0;
-    let mut differ: u64 = 0;
-    for i in 0..count {
-        match replay_next(alloc, input) {
-            Ok(true) => agree += 1,
-            Ok(false) => {
-                differ += 1;
-                println!(rt; "vector {i}: differs")?;
-            }
-            Err(ReplayError::Io(error)) => return Err(error),
-            Err(ReplayError::TooLong) => {
-                println!(rt; "vector {i}: {}", ReplayError::TooLong)?;
-                break;
-            }
-            Err(ReplayError::CutShort) => {
-                println!(rt; "{} in vector {i}", ReplayError::CutShort)?;
-                break;
-            }
-        }
+// Programs with the answers of planning.
+#[derive(Clone, Copy)]
+struct PlanVector;
+
+impl Vector for PlanVector {
+    fn replay<I: Read>(alloc: Global, input: &mut I) -> Result<bool, ReplayError> {
+        replay_next(alloc, input)
     }
-    println!(rt; "{count} vectors: {agree} agree, {differ} differ")
 }
 
-// Reads the number of vectors and replays them.
+// Replays the vectors of standard input.
 fn main(rt: HostRuntime) -> io::Result<()> {
     let alloc = rt.alloc();
     let mut input = BufReader::new(alloc, rt.reader())?;
-    match read_word(&mut input) {
-        Ok(count) => replay_all(&rt, alloc, &mut input, count),
-        Err(ReplayError::Io(error)) => Err(error),
-        Err(error) => println!(rt; "{error} before its first vector"),
-    }
+    replay_vectors::<PlanVector>(&rt, alloc, &mut input)
 }

@@ -3,7 +3,7 @@ use Rattle.std.proofs.Common.{◌≡◌, refl, sym, ap, ◌∙◌, arith, ◌+�
 use Rattle.std.proofs.lemmas.List.{ext_get_or, length-append, length-replicate}
 use Rattle.definition.specs.Plan.{padded}
 use Rattle.definition.proofs.Padded.{zeroed_at}
-use Rattle.replay.proofs.holds.Goals as goal
+use Rattle.vectors.proofs.holds.Goals as goal
 
 -- the words and zeros are as many as they should be, or as the words where these are more
 padded_length : (n : ℕ) (ws : List ℕ) → length (padded n ws) ≡ length ws + (n - length ws)
