@@ -1,19 +1,22 @@
 /*
- * The C interface of Midvokt: three calls. midvokt_plan plans how a quantum-circuit simulator
+ * The C interface of Midvokt: four calls. midvokt_plan plans how a quantum-circuit simulator
  * cuts one wide register into small independent ones. midvokt_store plans and also writes the
  * plan as a file, to be kept; midvokt_load reads such a file back, so that a circuit that is
- * used often is not planned each time. Link libmidvokt.a. C99 and C++11.
+ * used often is not planned each time. midvokt_optimize makes a list of pending operations,
+ * those that a simulator has queued and not yet planned, shorter. Link libmidvokt.a. C99 and
+ * C++11.
  *
- * The library is proved, for every input, to give the plan, the file or what the file holds,
- * or the first refusal of its definition, and to write every word and byte of the lent
- * buffers. What stands on this side of the calls is not proved and is trusted to the caller:
+ * The library is proved, for every input, to give the plan, the file, what the file holds or
+ * the optimized list, or the first refusal of its definition, and to write every word and byte
+ * of the lent buffers. What stands on this side of the calls is not proved and is trusted to the
+ * caller:
  *
  *   - each pointer is not null, also where its length is 0, and each pointer to words is
  *     aligned for uint64_t; the bytes of a file need no alignment;
  *   - each pointer has as many words, that of a file as many bytes, behind it as its length
  *     says;
  *   - the outputs, the result and a file that is written overlap neither each other nor what
- *     is read, which is the records or the file that is loaded;
+ *     is read, which is the records, the file that is loaded, or operations and prefixes;
  *   - MIDVOKT_STACK_BYTES bytes of stack are left.
  *
  * A file's length is in bytes, all others are in words of 64 bits. No call keeps memory or
@@ -78,7 +81,8 @@ extern "C" {
 
 /* Bytes of stack that each call needs, whatever its arguments. At its worst a call was measured
  * to use 14,088 of them on x86-64: 10,872 of its own, and 3,216 where the system looks up
- * memcpy only as the first call reaches it. It calls nothing back and does not recurse. */
+ * memcpy only as the first call reaches it. midvokt_optimize alone used 4,536 at most, with such
+ * look-ups. It calls nothing back and does not recurse. */
 #define MIDVOKT_STACK_BYTES 16384
 
 /* The largest ceiling, that of a controller that holds registers of up to 61 coordinates. With
@@ -348,10 +352,101 @@ enum midvokt_load_result_word {
 };
 #define MIDVOKT_LOAD_RESULT_WORDS 15
 
+/* ---- Pending operations: 32 words each ----------------------------------------------- */
+
+/* Words of an operation, the most operations of a list, and the most preserved prefixes. */
+#define MIDVOKT_OPERATION_WORDS 32
+#define MIDVOKT_MOST_OPERATIONS 1024
+#define MIDVOKT_MOST_PREFIXES 1024
+
+/* The largest width: a list's strings have 1 to so many qubits. */
+#define MIDVOKT_MOST_QUBITS 64
+
+/* The angles that are given lie from -2^20 to this, both included; a NaN does not. Angles that
+ * were fused may lie beyond. */
+#define MIDVOKT_MOST_ANGLE 1048576
+
+/* The largest condition, record and expectation value: 2^31 - 1. */
+#define MIDVOKT_MOST_NUMBER 2147483647
+
+/* The kind, word 0 of an operation. */
+enum midvokt_operation_kind {
+    MIDVOKT_OPERATION_ROTATION = 0,         /* exp(-i angle P), P a Pauli string with its sign */
+    MIDVOKT_OPERATION_MEASUREMENT = 1,      /* of a Pauli string with its sign */
+    MIDVOKT_OPERATION_CLASSICAL_RECORD = 2  /* a bit is written to a record; no qubit is touched */
+};
+
+/* The words of an operation, by its kind. Words behind the last field are zero. Strings and
+ * their phases are those of records (see above), but for masks of up to 64 bits: no bit may
+ * stand at or above the list's width. A rotation's string has to be Hermitian; that of a
+ * measurement is not judged. */
+enum midvokt_operation_word {
+    MIDVOKT_OPERATION_KIND = 0,
+    /* a rotation */
+    MIDVOKT_TURN_ANGLE = 1,             /* bits of a double */
+    MIDVOKT_TURN_X = 2,                 /* mask by qubit */
+    MIDVOKT_TURN_Z = 3,                 /* mask by qubit */
+    MIDVOKT_TURN_PHASE = 4,             /* exponent of i, 0 to 3; each Y needs 1 */
+    MIDVOKT_TURN_SIGN = 5,              /* ten words, 5 to 14 */
+    /* a measurement */
+    MIDVOKT_MEASURED_X = 1,             /* mask by qubit */
+    MIDVOKT_MEASURED_Z = 2,             /* mask by qubit */
+    MIDVOKT_MEASURED_PHASE = 3,         /* exponent of i, 0 to 3; each Y needs 1 */
+    MIDVOKT_MEASURED_SIGN = 4,          /* ten words, 4 to 13 */
+    MIDVOKT_MEASURED_RECORD = 14,       /* an Option, 14 and 15: where the outcome goes */
+    MIDVOKT_MEASURED_CONDITION = 16,    /* an Option, 16 and 17: its symbol in later signs */
+    MIDVOKT_MEASURED_EXPECTATION = 18,  /* an Option, 18 and 19: the expectation value that is
+                                           taken in place of an outcome */
+    /* a classical record */
+    MIDVOKT_WRITTEN_OUTCOME = 1,        /* a sign, ten words, 1 to 10: the bit that is written */
+    MIDVOKT_WRITTEN_RECORD = 11,        /* an Option, 11 and 12: where it goes */
+    MIDVOKT_WRITTEN_CONDITION = 13      /* an Option, 13 and 14: its symbol in later signs */
+};
+
+/* A sign: an exclusive or of a constant and of symbols, which stand for bits that are not known
+ * yet. A string has a minus where its sign is 1. */
+enum midvokt_sign_word {
+    MIDVOKT_SIGN_CONSTANT = 0,   /* 0 or 1 */
+    MIDVOKT_SIGN_COUNT = 1,      /* how many of the conditions are used, 0 to 8 */
+    MIDVOKT_SIGN_CONDITIONS = 2, /* eight words: the used ones are symbols, 1 to 2^31 - 1 and
+                                    strictly ascending, the others 0 */
+    MIDVOKT_SIGN_WORDS = 10
+};
+
+/* An Option: 0, 0 for nothing, and 1, value for a value, 0 to 2^31 - 1. */
+enum midvokt_option_word {
+    MIDVOKT_OPTION_FLAG = 0,
+    MIDVOKT_OPTION_VALUE = 1
+};
+
+/* How many words the optimized list and the map of n operations need; both may be longer. */
+#define MIDVOKT_OPTIMIZED_WORDS(n) ((size_t)32 * (n))
+#define MIDVOKT_MAP_WORDS(n) ((size_t)(n) + 1)
+
+/* A preserved prefix p, 0 to n, is the boundary that has the first p of n operations before it.
+ * The map has a word for each boundary of the list, word p for the one of p. It is how many of
+ * the optimized operations stand before it, for 0, for n and for each preserved prefix; for all
+ * others it is this. Where a measurement has an expectation value all words are p itself. */
+#define MIDVOKT_NO_BOUNDARY UINT64_MAX
+
+/* The result of midvokt_optimize. After a refusal words 1 to 5 are 0. A shorter result gets its
+ * first words, and words behind the sixth are zero. Output is input less fused less cancelled:
+ * two that fuse become one, and two that cancel are counted in both. */
+enum midvokt_optimize_result_word {
+    MIDVOKT_OPTIMIZE_RESULT_INDEX = 0,     /* the refused operation; 0 for an optimized list */
+    MIDVOKT_OPTIMIZE_RESULT_INPUT = 1,     /* operations that were given */
+    MIDVOKT_OPTIMIZE_RESULT_OUTPUT = 2,    /* operations that are left */
+    MIDVOKT_OPTIMIZE_RESULT_FUSED = 3,     /* pairs of rotations that became one, or none */
+    MIDVOKT_OPTIMIZE_RESULT_CANCELLED = 4, /* of these, the pairs that became none */
+    MIDVOKT_OPTIMIZE_RESULT_SWAPS = 5      /* rotations that measurements moved in front of */
+};
+#define MIDVOKT_OPTIMIZE_RESULT_WORDS 6
+
 /* ---- The number that each call returns ----------------------------------------------- */
 
 enum midvokt_number {
     MIDVOKT_PLANNED = 0,                     /* there is a plan, and what was asked is done */
+    MIDVOKT_OPTIMIZED = 0,                   /* the list is optimized */
     /* the head and the buffers; the index is 0 */
     MIDVOKT_REFUSED_MAX_K = 1,               /* max_k is the ceiling or more */
     MIDVOKT_REFUSED_RECORD_WORDS = 2,        /* no multiple of 8, or more than 8,192 */
@@ -390,8 +485,20 @@ enum midvokt_number {
     /* the head, before all others; the index is 0 */
     MIDVOKT_REFUSED_CEILING = 24,            /* the ceiling is not 1 to 62 */
     /* a rotation, right after 8 for the same record */
-    MIDVOKT_REFUSED_SQUARES = 25             /* sine * sine + cosine * cosine is not
+    MIDVOKT_REFUSED_SQUARES = 25,            /* sine * sine + cosine * cosine is not
                                                 1 - 2^-50 to 1 + 2^-50 */
+    /* pending operations, in this order; 26 before all else, with the index 0 */
+    MIDVOKT_REFUSED_FORM = 26,               /* a width that is not 1 to 64; operation words that
+                                                are no multiple of 32 or more than 32,768; more
+                                                than 1,024 prefixes; an output that is too short
+                                                for the list or the map; or an operation that is
+                                                not as the words above say */
+    /* where no measurement has an expectation value */
+    MIDVOKT_REFUSED_PREFIX = 27,             /* a prefix is more than there are operations; the
+                                                index is 0 */
+    MIDVOKT_REFUSED_GENERATOR = 28           /* a rotation's phase less the number of its Y is
+                                                odd, so that its string is not Hermitian; the
+                                                index is the first such operation's */
 };
 
 /*
@@ -491,6 +598,52 @@ uint64_t midvokt_load(const uint8_t *file, size_t file_len,
                       uint64_t *promotions, size_t promotions_len,
                       uint64_t *measurements, size_t measurements_len,
                       uint64_t *result, size_t result_len);
+
+/*
+ * Optimizes a list of pending operations. Returns MIDVOKT_OPTIMIZED, or the number of the first
+ * refusal.
+ *
+ *   width       how many qubits the strings have, 1 to MIDVOKT_MOST_QUBITS
+ *   operations  the operations, one behind the other, 32 words each; operations_len counts words
+ *   prefixes    the boundaries across which nothing goes, in any order, repeats allowed, at most
+ *               MIDVOKT_MOST_PREFIXES
+ *   optimized   the operations that are left, in order; at least as many words as are given
+ *   map         where each boundary is now; at least one word more than there are operations
+ *   result      the refused operation, and the five counts; of any length
+ *
+ * Words behind the used ones are zero; after any refusal list, map and counts are.
+ *
+ * Two strings commute where the bits that x of one shares with z of the other, both ways taken
+ * together, are even in number; phases and signs do not matter. The boundaries cut the list into
+ * segments, from the start over each preserved prefix to the end, and in each, once:
+ *
+ *   fusing      Each rotation, from the first operation on, goes behind the operations that
+ *               follow it, over classical records and over rotations and measurements that
+ *               commute with it. Where it comes to a rotation about the same string, with the same
+ *               conditions in its sign, the two become one, at the place of the later one. Its
+ *               angle is the later one's plus the earlier one's, or less it where the signs of
+ *               the two are opposite, one rounded sum; its phase is the number of its Y modulo 4,
+ *               and what the phase said of its sign is now in the sign's constant. Where the
+ *               angle is 0, or -0, the two cancel, and none is left. A rotation that meets none
+ *               stays where it was, word for word, also with an angle of 0.
+ *   moving      Then each measurement, from the first on, moves in front of rotations that stand
+ *               right before it and commute with it: of all of them where something was fused in
+ *               this segment, and else up to the nearest about its own string, if there is one.
+ *
+ * So operations that are left keep their order, but for a measurement and a rotation that
+ * commute; nothing goes across a preserved prefix; and between two that were fused stood only
+ * classical records and operations that commute with the earlier one. It is not repeated until
+ * nothing changes: optimizing the optimized list may change it again.
+ *
+ * Where a measurement has an expectation value the list comes back as it is, with the map 0, 1 to
+ * n and no fused, cancelled or moved ones; prefixes and phases are not judged then.
+ *
+ * The function keeps no array of its own: it works in the list and the map that it is lent.
+ */
+uint64_t midvokt_optimize(uint64_t width, const uint64_t *operations, size_t operations_len,
+                          const uint64_t *prefixes, size_t prefixes_len, uint64_t *optimized,
+                          size_t optimized_len, uint64_t *map, size_t map_len, uint64_t *result,
+                          size_t result_len);
 
 #ifdef __cplusplus
 }

@@ -2,10 +2,11 @@
  * Measures the stack that each call needs: it runs on a stack of its own that was painted before,
  * and what is no longer painted was used. The programs reach every kind of record, the widest
  * joins, the most records, and refusals early and late; each is stored, planned, and its file
- * loaded. The first call comes before anything else has called memcpy or memset, so that it pays
+ * loaded. Lists of pending operations that fuse, move or are refused are optimized. The first call comes before anything else has called memcpy or memset, so that it pays
  * for having them looked up; nothing in here calls them, and `check` has them looked up as late as
  * can be. With the word `bytes` behind it, it prints how many bytes each call took, and with `bytes
- * plan` the first call is that of midvokt_plan; else whether all stay below what the header states.
+ * plan` the first call is that of midvokt_plan, with `bytes optimize` that of midvokt_optimize; else
+ * whether all stay below what the header states.
  * `check` compares that with stack.expected. C99 and C++11, on systems with ucontext.
  */
 #define _XOPEN_SOURCE 700
@@ -37,6 +38,10 @@ static uint64_t result[MIDVOKT_RESULT_WORDS];
 static uint8_t file[MIDVOKT_FILE_BYTES(RECORDS)];
 static size_t file_len;
 static uint64_t initial_k, max_k, number;
+static uint64_t operations[MIDVOKT_OPTIMIZED_WORDS(MIDVOKT_MOST_OPERATIONS)];
+static uint64_t prefixes[MIDVOKT_MOST_PREFIXES];
+static uint64_t optimized[MIDVOKT_OPTIMIZED_WORDS(MIDVOKT_MOST_OPERATIONS)];
+static uint64_t map[MIDVOKT_MAP_WORDS(MIDVOKT_MOST_OPERATIONS)];
 
 #define LENGTH(words) (sizeof(words) / sizeof(words)[0])
 #define LENT(words) words, LENGTH(words)
@@ -63,6 +68,12 @@ static void load(void)
 {
     number = midvokt_load(file, file_len, LENT(steps), LENT(merges), LENT(sizes), LENT(rotations),
                           LENT(promotions), LENT(measurements), LENT(result));
+}
+
+static void optimize(void)
+{
+    number = midvokt_optimize(2, operations, used * MIDVOKT_OPERATION_WORDS, LENT(prefixes),
+                              LENT(optimized), LENT(map), LENT(result));
 }
 
 /* The bytes of the painted stack that a call changes. */
@@ -174,6 +185,59 @@ static void refused_early(void)
     max_k = 62;
 }
 
+/* Adds a pending operation of which x and z, or what else stands there, are given. */
+static void queue(uint64_t kind, uint64_t first, uint64_t second, uint64_t third)
+{
+    uint64_t *operation = operations + used++ * MIDVOKT_OPERATION_WORDS;
+    size_t word;
+    for (word = 1; word < MIDVOKT_OPERATION_WORDS; word++)
+        operation[word] = 0;
+    operation[MIDVOKT_OPERATION_KIND] = kind;
+    operation[1] = first;
+    operation[2] = second;
+    operation[3] = third;
+}
+
+/* A list of one chain of rotations. */
+static void chain(void)
+{
+    used = 0;
+    while (used < MIDVOKT_MOST_OPERATIONS)
+        queue(MIDVOKT_OPERATION_ROTATION, ONE, 1, 0);
+}
+
+/* A list of rotations that cancel, commute or do not, and of measurements that move. */
+static void mixture(void)
+{
+    used = 0;
+    while (used + 8 <= MIDVOKT_MOST_OPERATIONS) {
+        queue(MIDVOKT_OPERATION_ROTATION, ONE, 1, 0);
+        queue(MIDVOKT_OPERATION_CLASSICAL_RECORD, 0, 0, 0);
+        queue(MIDVOKT_OPERATION_ROTATION, ONE, 0, 2);
+        queue(MIDVOKT_OPERATION_ROTATION, ONE ^ UINT64_C(1) << 63, 1, 0);
+        queue(MIDVOKT_OPERATION_MEASUREMENT, 0, 2, 0);
+        queue(MIDVOKT_OPERATION_ROTATION, ONE, 3, 0);
+        queue(MIDVOKT_OPERATION_ROTATION, ONE, 3, 0);
+        queue(MIDVOKT_OPERATION_MEASUREMENT, 3, 0, 0);
+    }
+}
+
+/* The mixture, of which the last operation is a rotation that is not Hermitian. */
+static void odd_at_the_end(void)
+{
+    mixture();
+    used--;
+    queue(MIDVOKT_OPERATION_ROTATION, ONE, 1, 1);
+}
+
+/* The mixture, of which the last operation is of no kind. */
+static void no_kind_at_the_end(void)
+{
+    mixture();
+    used--;
+    queue(3, 0, 0, 0);
+}
+
 /* A call by its name. */
 struct named {
     const char *name;
@@ -193,7 +257,27 @@ static size_t measured(const struct named *named, size_t program, uint64_t wante
     return bytes;
 }
 
-int main(int count, char **words)
+/* The most bytes that optimizing one of the lists took; none where one returns another number. */
+static size_t most_of_lists(int is_told)
+{
+    static void (*const lists[])(void) = {chain, mixture, odd_at_the_end, no_kind_at_the_end};
+    static const uint64_t numbers[] = {MIDVOKT_OPTIMIZED, MIDVOKT_OPTIMIZED,
+                                       MIDVOKT_REFUSED_GENERATOR, MIDVOKT_REFUSED_FORM};
+    static const struct named call = {"optimize", optimize};
+    size_t list, most = 0;
+    for (list = 0; list < LENGTH(lists); list++) {
+        size_t bytes;
+        lists[list]();
+        bytes = measured(&call, list, numbers[list], is_told);
+        if (bytes == 0)
+            return 0;
+        most = bytes > most ? bytes : most;
+    }
+    return most;
+}
+
+/* The most bytes that a call of one of the programs took; none where one returns another number. */
+static size_t most_of_programs(int is_told, int is_plan_first)
 {
     static void (*const programs[])(void) = {up_and_down,  joins_of_pairs, promotions_and_others,
                                              refused_late, refused_pivot,  refused_early};
@@ -205,8 +289,6 @@ int main(int count, char **words)
                                        MIDVOKT_REFUSED_MAX_K};
     static const struct named calls[] = {{"plan", plan}, {"store", store}, {"plan", plan},
                                          {"load", load}};
-    int is_told = count > 1 && words[1][0] == 'b';
-    int is_plan_first = count > 2 && words[2][0] == 'p';
     size_t program, call, most = 0;
     for (program = 0; program < LENGTH(programs); program++) {
         programs[program]();
@@ -217,10 +299,24 @@ int main(int count, char **words)
                 wanted = MIDVOKT_REFUSED_FILE;
             bytes = measured(calls + call, program, wanted, is_told);
             if (bytes == 0)
-                return 1;
+                return 0;
             most = bytes > most ? bytes : most;
         }
     }
+    return most;
+}
+
+int main(int count, char **words)
+{
+    int is_told = count > 1 && words[1][0] == 'b';
+    int first = count > 2 ? words[2][0] : 's';
+    size_t lists = first == 'o' ? most_of_lists(is_told) : 0;
+    size_t most = most_of_programs(is_told, first == 'p');
+    if (first != 'o')
+        lists = most_of_lists(is_told);
+    if (lists == 0 || most == 0)
+        return 1;
+    most = lists > most ? lists : most;
     if (is_told)
         return 0;
     printf("stack: %s\n", most <= MIDVOKT_STACK_BYTES ? "below what the header states"

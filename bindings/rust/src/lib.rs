@@ -168,21 +168,74 @@
 //! # }
 //! ```
 //!
+//! # Pending operations
+//!
+//! A simulator queues rotations, measurements and classical records before it plans them.
+//! `optimize` makes such a list shorter: a rotation goes behind what it commutes with, up to one
+//! about the same string, and the two become one, or none; then measurements move in front of
+//! rotations that they commute with. Preserved prefixes are counts of operations across which
+//! nothing goes, and `prefix_remap` says where each is in the list that is left. The library is
+//! proved to give what its definition gives, word for word; `include/midvokt.h` says in full what
+//! is done. [`optimize_into`] does the same over words, and allocates nothing.
+//!
+//! ```
+//! # #[cfg(feature = "alloc")] {
+//! use midvokt::{
+//!     optimize, PauliString, PendingOperation, PendingPauliMeasurement, PendingPauliRotation,
+//!     Reason, SymbolicBool, SymbolicPauliString,
+//! };
+//!
+//! let signed = |x, z, phase| {
+//!     let pauli = PauliString::from_masks(2, x, z, phase);
+//!     SymbolicPauliString::with_sign(pauli, SymbolicBool::from(false))
+//! };
+//! let turn = |kernel_angle, pauli| {
+//!     PendingOperation::from(PendingPauliRotation { kernel_angle, pauli })
+//! };
+//! let measure = |pauli| {
+//!     let record = Some(1);
+//!     PendingOperation::from(PendingPauliMeasurement { pauli, record, ..Default::default() })
+//! };
+//! // X0 by 0.5, Z1 by 0.25, -X0 by 0.125, and a measurement of Z1.
+//! let list = [
+//!     turn(0.5, signed(1, 0, 0)),
+//!     turn(0.25, signed(0, 2, 0)),
+//!     turn(0.125, signed(1, 0, 2)),
+//!     measure(signed(0, 2, 0)),
+//! ];
+//! let optimized = optimize(2, &list, &[]).unwrap();
+//! // -X0 by 0.125 - 0.5 is left of the two, its minus as a sign, and the measurement is in front.
+//! let minus = SymbolicPauliString { sign: SymbolicBool::from(true), ..signed(1, 0, 0) };
+//! let left = [list[3].clone(), list[1].clone(), turn(-0.375, minus)];
+//! assert_eq!(optimized.operations, left);
+//! assert_eq!(optimized.stats.fused_rotations, 1);
+//! assert_eq!(optimized.stats.measurement_left_swaps, 2);
+//! assert_eq!(optimized.stats.prefix_remap, [0, -1, -1, -1, 3]);
+//!
+//! // With the first two preserved, the first rotation stays where it is.
+//! let kept = optimize(2, &list, &[2]).unwrap();
+//! assert_eq!(kept.operations, list);
+//! assert_eq!(optimize(2, &list, &[5]).unwrap_err().reason, Reason::Prefix);
+//! # }
+//! ```
+//!
 //! # What is the Rust simulator's
 //!
 //! The plan, its rows and their kernels have the names, fields, methods and defaults that the
 //! Rust simulator ticit gives them, and `groups` and `whole_works` are added. What makes a kernel
-//! from a Pauli string is left out: kernels come from the proved library.
+//! from a Pauli string is left out: kernels come from the proved library. Pending operations and
+//! what optimizing them came to have ticit's names and fields.
 //!
 //! # Features
 //!
 //! The crate is `no_std`. Without features it has [`plan_into`], [`plan_words`], [`store_into`],
-//! [`store_words`], [`load_into`], [`load_words`], the rows and [`Record::encode`], allocates nothing
-//! and depends on nothing.
+//! [`store_words`], [`load_into`], [`load_words`], [`optimize_into`], [`optimize_words`], the rows and
+//! [`Record::encode`], allocates nothing and depends on nothing.
 //!
 //! * `alloc`: owned plans, which are `plan`, `plan_encoded` and `ActiveComponentPlan`, stored ones,
-//!   which are `store`, `store_encoded`, `load`, `Stored`, `StoredPlan` and `StoredWords`, and
-//!   `encode`, which gives the words of all records.
+//!   which are `store`, `store_encoded`, `load`, `Stored`, `StoredPlan` and `StoredWords`, pending
+//!   operations, which are `optimize`, `optimize_encoded`, `PendingOperation` and what it is made
+//!   of, and `encode`, which gives the words of all records.
 //! * `std`, on unless turned off: `alloc`, and `Record::rotation`, which computes sine and
 //!   cosine. Without it the caller gives them in [`Rotation`].
 //! * `num-complex`: [`Complex`] is the `Complex64` of the crate num-complex 0.4, the only
@@ -231,6 +284,9 @@ mod call;
 #[cfg(not(feature = "num-complex"))]
 mod complex;
 mod kernels;
+mod optimize;
+#[cfg(feature = "alloc")]
+mod pending;
 #[cfg(feature = "alloc")]
 mod plan;
 mod record;
@@ -253,6 +309,16 @@ pub use kernels::{
 };
 #[cfg(feature = "num-complex")]
 pub use num_complex::Complex64 as Complex;
+pub use optimize::{
+    optimize_into, optimize_words, OptimizationCounts, MOST_OPERATIONS, MOST_PREFIXES, MOST_QUBITS,
+    NO_BOUNDARY, OPERATION_WORDS, OPTIMIZE_RESULT_WORDS, SIGN_CONDITIONS,
+};
+#[cfg(feature = "alloc")]
+pub use pending::{
+    encode_operations, optimize, optimize_encoded, Optimized, PauliString, PendingClassicalRecord,
+    PendingOperation, PendingOptimizationStats, PendingPauliMeasurement, PendingPauliRotation,
+    SymbolicBool, SymbolicPauliString,
+};
 #[cfg(feature = "alloc")]
 pub use plan::{plan, plan_encoded, ActiveComponentPlan};
 #[cfg(feature = "alloc")]

@@ -1,4 +1,5 @@
-//! Why there is no plan, or no file: the reason by name, number and sentence, and the record.
+//! Why there is no plan, no file or no optimized list: the reason by name, number and sentence, and
+//! the record or operation.
 
 use core::error::Error;
 use core::fmt;
@@ -61,6 +62,15 @@ pub enum Reason {
     /// Number 25: the squares of sine and cosine, added as floats, do not sum to 1, give or take
     /// 2^-50. It is looked at right after number 8 of the same record.
     Squares,
+    /// Number 26: a list of pending operations, its width, its prefixes or one of its operations is
+    /// not of the form, or an output is too short for the list or the map. It is refused before
+    /// all else.
+    Form,
+    /// Number 27: a preserved prefix is more than the list has operations.
+    Prefix,
+    /// Number 28: the string of a rotation has a phase that less the number of its Y is odd, so
+    /// that it is not Hermitian.
+    Generator,
     /// A number that this version of the crate has no name for.
     Unnamed(u64),
 }
@@ -94,6 +104,9 @@ impl Reason {
             Self::Lengths => 23,
             Self::Ceiling => 24,
             Self::Squares => 25,
+            Self::Form => 26,
+            Self::Prefix => 27,
+            Self::Generator => 28,
             Self::Unnamed(number) => number,
         }
     }
@@ -126,6 +139,9 @@ impl Reason {
             23 => Self::Lengths,
             24 => Self::Ceiling,
             25 => Self::Squares,
+            26 => Self::Form,
+            27 => Self::Prefix,
+            28 => Self::Generator,
             _ => Self::Unnamed(number),
         }
     }
@@ -166,27 +182,48 @@ impl Reason {
             Self::Lengths => "a section has a count that no plan has, or a buffer is too short",
             Self::Ceiling => "the ceiling is not 1 to 62",
             Self::Squares => "the squares of sine and cosine do not sum to 1",
+            Self::Form | Self::Prefix | Self::Generator => self.sentence_on_lists(),
             Self::Unnamed(_) => "the number has no name in this version",
         }
     }
 
-    /// Whether it is about one record, and not about the head, the buffers or a file.
+    /// The sentence for a list of pending operations.
+    const fn sentence_on_lists(self) -> &'static str {
+        match self {
+            Self::Generator => "the rotation's string is not Hermitian",
+            Self::Prefix => "a preserved prefix is more than the list has operations",
+            _ => {
+                "the list, its width, its prefixes or an operation is not of the form, or an \
+                 output is too short"
+            }
+        }
+    }
+
+    /// Whether it is about one record, and not about the head, the buffers, a file or a list of
+    /// pending operations.
     pub const fn is_of_record(self) -> bool {
-        !matches!(self.number(), 0..=4 | 21..=24)
+        !matches!(self.number(), 0..=4 | 21..=24 | 26..=28)
+    }
+
+    /// Whether it is about one pending operation of a list.
+    pub const fn is_of_operation(self) -> bool {
+        matches!(self, Self::Generator)
     }
 }
 
-/// Why there is no plan, or no file, and where planning stopped. All buffers are zero after it.
+/// Why there is no plan, no file or no optimized list, and where it stopped. All buffers are zero
+/// after it.
 #[derive(Clone, Copy, Debug, PartialEq, Eq, Hash)]
 pub struct Refusal {
     /// Why the call was refused.
     pub reason: Reason,
-    /// The record at which planning stopped, from 0; 0 for the head, the buffers and files.
+    /// The record at which planning stopped, or the pending operation that is refused, from 0; 0
+    /// for the head, the buffers, files and whole lists.
     pub index: usize,
 }
 
 impl Refusal {
-    /// The reason's number, 1 to 25 for a reason that has a name.
+    /// The reason's number, 1 to 28 for a reason that has a name.
     pub const fn number(&self) -> u64 {
         self.reason.number()
     }
@@ -196,18 +233,27 @@ impl Refusal {
         self.reason.sentence()
     }
 
-    /// Whether the refusal is about one record, and not about the head, the buffers or a file.
+    /// Whether the refusal is about one record, and not about the head, the buffers, a file or a
+    /// list of pending operations.
     pub const fn is_of_record(&self) -> bool {
         self.reason.is_of_record()
+    }
+
+    /// Whether the refusal is about one pending operation of a list.
+    pub const fn is_of_operation(&self) -> bool {
+        self.reason.is_of_operation()
     }
 }
 
 impl fmt::Display for Refusal {
-    /// The number, the record if there is one, and the sentence.
+    /// The number, the record or operation if there is one, and the sentence.
     fn fmt(&self, formatter: &mut fmt::Formatter<'_>) -> fmt::Result {
         write!(formatter, "refusal {}", self.number())?;
         if self.is_of_record() {
             write!(formatter, " at record {}", self.index)?;
+        }
+        if self.is_of_operation() {
+            write!(formatter, " at operation {}", self.index)?;
         }
         write!(formatter, ": {}", self.sentence())
     }
@@ -230,24 +276,24 @@ mod tests {
 
     #[test]
     fn every_number_has_its_own_reason_and_sentence() {
-        let reasons: Vec<_> = (1..=25).map(Reason::from_number).collect();
-        assert!(reasons.iter().map(|reason| reason.number()).eq(1..=25));
+        let reasons: Vec<_> = (1..=28).map(Reason::from_number).collect();
+        assert!(reasons.iter().map(|reason| reason.number()).eq(1..=28));
         let unnamed = |reason: &Reason| matches!(reason, Reason::Unnamed(_));
         assert!(!reasons.iter().any(unnamed));
         let sentences: HashSet<_> = reasons.iter().map(|reason| reason.sentence()).collect();
-        assert_eq!(sentences.len(), 25);
-        assert!(!sentences.contains(Reason::Unnamed(26).sentence()));
+        assert_eq!(sentences.len(), 28);
+        assert!(!sentences.contains(Reason::Unnamed(29).sentence()));
     }
 
     #[test]
     fn an_unknown_number_is_kept() {
-        for number in [0, 26, u64::MAX] {
+        for number in [0, 29, u64::MAX] {
             assert_eq!(Reason::from_number(number), Reason::Unnamed(number));
             assert_eq!(Reason::Unnamed(number).number(), number);
         }
         assert_eq!(
-            said(26),
-            "refusal 26 at record 7: the number has no name in this version"
+            said(29),
+            "refusal 29 at record 7: the number has no name in this version"
         );
     }
 
@@ -267,6 +313,23 @@ mod tests {
         assert_eq!(
             said(25),
             "refusal 25 at record 7: the squares of sine and cosine do not sum to 1"
+        );
+    }
+
+    #[test]
+    fn the_operation_is_named_at_28_alone() {
+        assert_eq!(
+            said(26),
+            "refusal 26: the list, its width, its prefixes or an operation is not of the form, or \
+             an output is too short"
+        );
+        assert_eq!(
+            said(27),
+            "refusal 27: a preserved prefix is more than the list has operations"
+        );
+        assert_eq!(
+            said(28),
+            "refusal 28 at operation 7: the rotation's string is not Hermitian"
         );
     }
 }

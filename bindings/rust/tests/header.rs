@@ -1,11 +1,12 @@
 //! The names and numbers that the crate has are those of the C header: the reasons, the largest
-//! ceiling, the length of the results, their words, the marks of the whole works and the words of a
-//! stored plan.
+//! ceiling, the length of the results, their words, the marks of the whole works, the words of a
+//! stored plan, and the limits of a list of pending operations.
 
 use midvokt::{
     file_bytes, plan_into, plan_words, Buffers, Head, Lengths, Reason, Record, Scalars, Summary,
-    WholeWorks, FILE_VERSION, LARGEST_CEILING, LOAD_RESULT_WORDS, RESULT_WORDS, SCALAR_WORDS,
-    STORE_RESULT_WORDS, TRAILER_WORDS,
+    WholeWorks, FILE_VERSION, LARGEST_CEILING, LOAD_RESULT_WORDS, MOST_OPERATIONS, MOST_PREFIXES,
+    MOST_QUBITS, NO_BOUNDARY, OPERATION_WORDS, OPTIMIZE_RESULT_WORDS, RESULT_WORDS, SCALAR_WORDS,
+    SIGN_CONDITIONS, STORE_RESULT_WORDS, TRAILER_WORDS,
 };
 
 const HEADER: &str = include_str!("../../../include/midvokt.h");
@@ -67,7 +68,7 @@ fn the_reasons_have_the_names_of_the_header() {
         assert_eq!(format!("{reason:?}"), camel(name), "number {number}");
         numbers.push(number);
     }
-    assert!(numbers.into_iter().eq(1..=25));
+    assert!(numbers.into_iter().eq(1..=28));
 }
 
 #[test]
@@ -95,6 +96,133 @@ fn the_results_of_files_have_the_lengths_of_the_header() {
     let places = |prefix| all(prefix).into_iter().map(|word| word.1);
     assert!(places("MIDVOKT_STORE_RESULT_").eq(0..STORE_RESULT_WORDS as u64));
     assert!(places("MIDVOKT_LOAD_RESULT_").eq(9..LOAD_RESULT_WORDS as u64));
+}
+
+#[test]
+fn lists_have_the_limits_of_the_header() {
+    for (name, number) in [
+        ("OPERATION_WORDS", OPERATION_WORDS),
+        ("MOST_OPERATIONS", MOST_OPERATIONS),
+        ("MOST_PREFIXES", MOST_PREFIXES),
+        ("MOST_QUBITS", MOST_QUBITS),
+        ("OPTIMIZE_RESULT_WORDS", OPTIMIZE_RESULT_WORDS),
+    ] {
+        assert!(HEADER.contains(&format!("#define MIDVOKT_{name} {number}\n")));
+    }
+    assert_eq!(NO_BOUNDARY, u64::MAX);
+    assert!(HEADER.contains("#define MIDVOKT_NO_BOUNDARY UINT64_MAX\n"));
+    let places = all("MIDVOKT_OPTIMIZE_RESULT_").into_iter();
+    assert!(places
+        .map(|word| word.1)
+        .eq(0..OPTIMIZE_RESULT_WORDS as u64));
+    let signs = all("MIDVOKT_SIGN_");
+    assert_eq!(signs[2], ("CONDITIONS", 2));
+    assert_eq!(signs[3], ("WORDS", 2 + SIGN_CONDITIONS as u64));
+}
+
+/// The place of a word of an operation, by its name.
+#[cfg(feature = "alloc")]
+fn place_of(name: &str) -> usize {
+    let (prefix, name) = name.split_once('_').expect("a name has two parts");
+    let words = all(&format!("MIDVOKT_{prefix}_"));
+    let found = words.iter().find(|word| word.0 == name);
+    found.expect("the header has the name").1 as usize
+}
+
+/// Ten words of a sign with the constant 1 and the symbols 11 and 12.
+#[cfg(feature = "alloc")]
+fn sign_words() -> Vec<u64> {
+    let mut words = vec![0; place_of("SIGN_WORDS")];
+    words[place_of("SIGN_CONSTANT")] = 1;
+    words[place_of("SIGN_COUNT")] = 2;
+    let conditions = place_of("SIGN_CONDITIONS");
+    words[conditions..conditions + 2].copy_from_slice(&[11, 12]);
+    words
+}
+
+/// The words of an operation of a kind, in which these begin at these places.
+#[cfg(feature = "alloc")]
+fn laid_out(kind: &str, parts: &[(&str, &[u64])]) -> Option<[u64; OPERATION_WORDS]> {
+    let mut words = [0; OPERATION_WORDS];
+    words[place_of("OPERATION_KIND")] = place_of(kind) as u64;
+    for (name, part) in parts {
+        let place = place_of(name);
+        words[place..place + part.len()].copy_from_slice(part);
+    }
+    Some(words)
+}
+
+/// The same sign.
+#[cfg(feature = "alloc")]
+fn sign() -> midvokt::SymbolicBool {
+    midvokt::SymbolicBool {
+        constant: true,
+        conditions: vec![11, 12],
+    }
+}
+
+/// A string of x = 5, z = 6 and phase 3, with that sign.
+#[cfg(feature = "alloc")]
+fn signed() -> midvokt::SymbolicPauliString {
+    let string = midvokt::PauliString::from_masks(4, 5, 6, 3);
+    midvokt::SymbolicPauliString::with_sign(string, sign())
+}
+
+#[cfg(feature = "alloc")]
+#[test]
+fn a_pending_rotation_is_laid_out_as_the_header_says() {
+    let rotation = midvokt::PendingOperation::from(midvokt::PendingPauliRotation {
+        kernel_angle: 0.25,
+        pauli: signed(),
+    });
+    let expected = [
+        ("TURN_ANGLE", &[0.25f64.to_bits()][..]),
+        ("TURN_X", &[5]),
+        ("TURN_Z", &[6]),
+        ("TURN_PHASE", &[3]),
+        ("TURN_SIGN", &sign_words()),
+    ];
+    let expected = laid_out("OPERATION_ROTATION", &expected);
+    assert_eq!(rotation.to_words(), expected);
+}
+
+#[cfg(feature = "alloc")]
+#[test]
+fn a_pending_measurement_is_laid_out_as_the_header_says() {
+    let measurement = midvokt::PendingOperation::from(midvokt::PendingPauliMeasurement {
+        pauli: signed(),
+        record: Some(7),
+        record_condition: None,
+        exp_val: Some(8),
+    });
+    let expected = [
+        ("MEASURED_X", &[5][..]),
+        ("MEASURED_Z", &[6]),
+        ("MEASURED_PHASE", &[3]),
+        ("MEASURED_SIGN", &sign_words()),
+        ("MEASURED_RECORD", &[1, 7]),
+        ("MEASURED_CONDITION", &[0, 0]),
+        ("MEASURED_EXPECTATION", &[1, 8]),
+    ];
+    let expected = laid_out("OPERATION_MEASUREMENT", &expected);
+    assert_eq!(measurement.to_words(), expected);
+}
+
+#[cfg(feature = "alloc")]
+#[test]
+fn a_classical_record_is_laid_out_as_the_header_says() {
+    let record = midvokt::PendingOperation::from(midvokt::PendingClassicalRecord {
+        outcome: sign(),
+        record: Some(7),
+        record_condition: Some(9),
+    });
+    let expected = [
+        ("WRITTEN_OUTCOME", &sign_words()[..]),
+        ("WRITTEN_RECORD", &[1, 7]),
+        ("WRITTEN_CONDITION", &[1, 9]),
+    ];
+    let expected = laid_out("OPERATION_CLASSICAL_RECORD", &expected);
+    assert_eq!(record.to_words(), expected);
 }
 
 #[test]

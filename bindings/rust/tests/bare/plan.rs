@@ -1,5 +1,6 @@
 //! A program with neither std nor an allocator that plans two records in buffers of its own, stores
-//! the plan and loads it again, and ends with status 0 where all is right. `check` builds it with
+//! the plan and loads it again, optimizes two pending operations, and ends with status 0 where all is
+//! right. `check` builds it with
 //! rustc alone: it would not link if the crate brought in either.
 
 #![no_std]
@@ -8,8 +9,8 @@
 use core::panic::PanicInfo;
 
 use midvokt::{
-    file_bytes, load_into, plan_into, store_into, ActiveComponentStepKind, Buffers, Head, Lengths,
-    Record, Rotation, Sections, LARGEST_CEILING, RECORD_WORDS,
+    file_bytes, load_into, optimize_into, plan_into, store_into, ActiveComponentStepKind, Buffers,
+    Head, Lengths, Record, Rotation, Sections, LARGEST_CEILING, OPERATION_WORDS, RECORD_WORDS,
 };
 
 const RECORDS: usize = 2;
@@ -99,8 +100,26 @@ fn is_stored(buffers: &mut Buffers<'_>) -> bool {
         && load_into(&file, &mut sections).is_err()
 }
 
+/// Whether two rotations about X0, by 0.5 and by 0.25, become one by 0.75.
+fn is_optimized() -> bool {
+    let turn = |angle: f64| {
+        let mut words = [0; OPERATION_WORDS];
+        [words[1], words[2]] = [angle.to_bits(), 1];
+        words
+    };
+    let mut operations = [0; 2 * OPERATION_WORDS];
+    operations[..OPERATION_WORDS].copy_from_slice(&turn(0.5));
+    operations[OPERATION_WORDS..].copy_from_slice(&turn(0.25));
+    let (mut optimized, mut map) = ([1; 2 * OPERATION_WORDS], [1; 3]);
+    let counts = optimize_into(1, &operations, &[], &mut optimized, &mut map);
+    counts.is_ok_and(|counts| counts.fused_rotations == 1)
+        && optimized[..OPERATION_WORDS] == turn(0.75)
+        && optimized[OPERATION_WORDS..] == [0; OPERATION_WORDS]
+        && map == [0, u64::MAX, 1]
+}
+
 /// Where the C library begins the program.
 #[no_mangle]
 pub extern "C" fn main() -> i32 {
-    i32::from(!is_planned())
+    i32::from(!(is_planned() && is_optimized()))
 }
