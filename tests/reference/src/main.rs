@@ -27,7 +27,9 @@
 //! With `random SEED COUNT` nothing is read, and so many random programs are printed; with
 //! `random-ceilings SEED COUNT` as many under ceilings.
 //! With `vectors` nothing is read, and the fixed vectors are written as bytes; with `files` the
-//! list of the files in which their plans are stored is printed.
+//! list of the files in which their plans are stored is printed. With `optimizing-vectors` those
+//! of the optimizer of pending operations are written as bytes, and with `optimizing-random SEED
+//! COUNT` so many random lists of operations in the same form.
 //!
 //! Exit status: 0, or 2 for a malformed line or option, or 3 for anything that was not
 //! foreseen, which never becomes an answer.
@@ -37,7 +39,7 @@ use std::process::ExitCode;
 
 use midvokt_reference::generator::Draw;
 use midvokt_reference::input::{Program, is_skipped};
-use midvokt_reference::{answer, generator, machine, output, vectors};
+use midvokt_reference::{answer, generator, machine, output, pending, vectors};
 
 /// Why a run ends early, and its exit status.
 struct Trouble {
@@ -76,6 +78,8 @@ enum Task {
     Fill,
     Random { draw: Draw, seed: u64, count: u64 },
     Vectors,
+    OptimizingVectors,
+    OptimizingRandom { seed: u64, count: u64 },
     Files,
 }
 
@@ -98,9 +102,14 @@ fn task(options: &[String]) -> Result<Task, Trouble> {
         ["random", seed, count] => random(generator::AT_62, seed, count),
         ["random-ceilings", seed, count] => random(generator::UNDER_CEILINGS, seed, count),
         ["vectors"] => Ok(Task::Vectors),
+        ["optimizing-vectors"] => Ok(Task::OptimizingVectors),
+        ["optimizing-random", seed, count] => Ok(Task::OptimizingRandom {
+            seed: number(seed)?,
+            count: number(count)?,
+        }),
         ["files"] => Ok(Task::Files),
         _ => Err(Trouble::malformed(format!(
-            "{options:?}: the options are --fill, random SEED COUNT, random-ceilings SEED COUNT, vectors, and files"
+            "{options:?}: the options are --fill, random SEED COUNT, random-ceilings SEED COUNT, vectors, optimizing-vectors, optimizing-random SEED COUNT, and files"
         ))),
     }
 }
@@ -128,6 +137,14 @@ fn handle_all(output: &mut impl Write, fill: bool) -> Result<(), Trouble> {
     Ok(())
 }
 
+/// Writes vectors as bytes.
+fn write_words(output: &mut impl Write, words: Result<Vec<u64>, String>) -> Result<(), Trouble> {
+    for word in words.map_err(Trouble::unforeseen)? {
+        output.write_all(&word.to_le_bytes())?;
+    }
+    Ok(())
+}
+
 /// Does what the options ask for.
 fn work(output: &mut impl Write) -> Result<(), Trouble> {
     let options: Vec<String> = std::env::args().skip(1).collect();
@@ -143,11 +160,10 @@ fn work(output: &mut impl Write) -> Result<(), Trouble> {
             }
             Ok(())
         }
-        Task::Vectors => {
-            for word in vectors::words().map_err(Trouble::unforeseen)? {
-                output.write_all(&word.to_le_bytes())?;
-            }
-            Ok(())
+        Task::Vectors => write_words(output, vectors::words()),
+        Task::OptimizingVectors => write_words(output, pending::vectors::words()),
+        Task::OptimizingRandom { seed, count } => {
+            write_words(output, pending::vectors::random_words(seed, count))
         }
         Task::Files => {
             let list = vectors::files().map_err(Trouble::unforeseen)?;

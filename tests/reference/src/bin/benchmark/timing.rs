@@ -97,10 +97,14 @@ pub fn run(passes: usize, programs: usize, mut pass: impl FnMut() -> Duration) -
     total.as_nanos() as f64 / (passes * programs) as f64
 }
 
-/// How many passes make a run long enough.
+/// How many passes last long enough for a run.
+pub fn passes_by_time(pass: Duration) -> usize {
+    (LEAST_RUN.as_nanos() / pass.as_nanos().max(1) + 1) as usize
+}
+
+/// How many passes make a run long enough and of enough calls.
 pub fn passes_for(pass: Duration, programs: usize) -> usize {
-    let by_time = LEAST_RUN.as_nanos() / pass.as_nanos().max(1) + 1;
-    (by_time as usize).max(FEWEST_CALLS.div_ceil(programs))
+    passes_by_time(pass).max(FEWEST_CALLS.div_ceil(programs))
 }
 
 /// The middle one of an odd number of values, or the upper of the two middle ones.
@@ -112,7 +116,7 @@ pub fn median(values: impl Iterator<Item = f64>) -> f64 {
 
 impl Timed {
     /// The medians of pairs of the library's time and the Rust's, and of their ratios.
-    fn of(pairs: &[(f64, f64)]) -> Self {
+    pub fn of(pairs: &[(f64, f64)]) -> Self {
         let ratios = || pairs.iter().map(|(ours, theirs)| ours / theirs);
         Self {
             ours: median(pairs.iter().map(|pair| pair.0)),

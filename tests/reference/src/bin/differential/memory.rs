@@ -1,75 +1,8 @@
-//! Memory for the lent buffers, the result and a file: noise, with guards on both sides of
-//! what is lent.
+//! Memory for the lent buffers, the result and a file.
 
 use midvokt::{Buffers, Head, Sections, load_words, plan_words, store_words};
 use midvokt_reference::generator::Numbers;
-
-/// Guard words or bytes on each side.
-const GUARD: usize = 8;
-
-/// What memory is made of.
-trait Cell: Copy + Default + PartialEq {
-    /// Noise at a place, from a random word; never zero.
-    fn noise(word: u64, place: usize) -> Self;
-}
-
-impl Cell for u64 {
-    /// Odd words that go up by two.
-    fn noise(word: u64, place: usize) -> Self {
-        word.wrapping_add(2 * place as u64) | 1
-    }
-}
-
-impl Cell for u8 {
-    /// Odd bytes that go up by two.
-    fn noise(word: u64, place: usize) -> Self {
-        (word as u8).wrapping_add((2 * place) as u8) | 1
-    }
-}
-
-/// One part of memory, of which the middle is lent.
-#[derive(Default)]
-struct Guarded<T> {
-    words: Vec<T>,
-    lent: usize,
-    noise: u64,
-}
-
-impl<T: Cell> Guarded<T> {
-    /// The noise at a place, which is never zero.
-    fn noise_at(&self, place: usize) -> T {
-        T::noise(self.noise, place)
-    }
-
-    /// Noise in what is lent and in the guards.
-    fn prepare(&mut self, lent: usize, noise: u64) {
-        (self.lent, self.noise) = (lent, noise);
-        let whole = lent + 2 * GUARD;
-        if self.words.len() < whole {
-            self.words.resize(whole, T::default());
-        }
-        let places = self.words[..whole].iter_mut().enumerate();
-        places.for_each(|(place, word)| *word = T::noise(noise, place));
-    }
-
-    /// What is lent, to write.
-    fn lend(&mut self) -> &mut [T] {
-        &mut self.words[GUARD..GUARD + self.lent]
-    }
-
-    /// What was lent.
-    fn read(&self) -> &[T] {
-        &self.words[GUARD..GUARD + self.lent]
-    }
-
-    /// Whether the guards are as they were.
-    fn is_guarded(&self) -> bool {
-        let end = GUARD + self.lent;
-        (0..GUARD)
-            .chain(end..end + GUARD)
-            .all(|place| self.words[place] == self.noise_at(place))
-    }
-}
+use midvokt_reference::guarded::Guarded;
 
 /// How much is lent: words of the seven buffers, bytes of the file, words of the result.
 #[derive(Clone, Copy)]
@@ -93,7 +26,7 @@ impl Memory {
         for (part, length) in self.parts.iter_mut().zip(all.chain([lent.result])) {
             part.prepare(length, noise.word());
         }
-        self.file.prepare(lent.file, self.parts[7].noise);
+        self.file.prepare(lent.file, self.parts[7].noise());
     }
 
     /// Plans, and gives the number that the library returns.

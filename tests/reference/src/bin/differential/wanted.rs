@@ -1,7 +1,6 @@
 //! What a call has to leave behind, and the first place where it left something else.
 
-use std::fmt::LowerHex;
-
+use midvokt_reference::guarded::difference;
 use midvokt_reference::input::BUFFERS;
 
 use crate::memory::Memory;
@@ -13,32 +12,6 @@ pub struct Wanted<'a> {
     pub result: &'a [u64],
     pub outputs: &'a [Vec<u64>],
     pub file: &'a [u8],
-}
-
-/// The first place where something, of words or of bytes, is not what is used of it with zeros
-/// behind.
-fn difference<T: Copy + Default + PartialEq + LowerHex>(
-    (name, unit): (&str, &str),
-    found: &[T],
-    used: &[T],
-) -> Option<String> {
-    let is_zero = |word: &T| *word == T::default();
-    if let Some((first, behind)) = found.split_at_checked(used.len())
-        && first == used
-        && behind.iter().all(is_zero)
-    {
-        return None;
-    }
-    let wanted = used.iter().copied().chain(std::iter::repeat(T::default()));
-    let place = found
-        .iter()
-        .zip(wanted.clone())
-        .position(|(&found, wanted)| found != wanted)?;
-    Some(format!(
-        "{name}, {unit} {place}: expected {:#x}, found {:#x}",
-        wanted.clone().nth(place).unwrap_or_default(),
-        found[place]
-    ))
 }
 
 /// The name of a part of memory.
