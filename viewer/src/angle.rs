@@ -57,6 +57,43 @@ pub fn parse(word: Word<'_>) -> Result<f64, Fault> {
     }
 }
 
+/// The divisors of pi that are tried where an angle is written.
+const DIVISORS: [u32; 10] = [1, 2, 3, 4, 5, 6, 8, 12, 16, 32];
+/// The largest factor of pi that is written.
+const MOST_FACTOR: f64 = 64.0;
+
+/// A part of pi that is read as this very angle, if there is one that is short.
+fn part_of_pi(angle: f64) -> Option<String> {
+    let part = |&divisor: &u32| {
+        let factor = (angle.abs() * f64::from(divisor) / PI).round();
+        let is_part = (1.0..=MOST_FACTOR).contains(&factor)
+            && factor * PI / f64::from(divisor) == angle.abs();
+        is_part.then_some((factor, divisor))
+    };
+    let (factor, divisor) = DIVISORS.iter().find_map(part)?;
+    let sign = if angle < 0.0 { "-" } else { "" };
+    let factor = if factor == 1.0 {
+        String::new()
+    } else {
+        factor.to_string()
+    };
+    let divisor = if divisor == 1 {
+        String::new()
+    } else {
+        format!("/{divisor}")
+    };
+    Some(format!("{sign}{factor}pi{divisor}"))
+}
+
+/// An angle as a file has it: read again it is the same, bit for bit.
+pub fn text(angle: f64) -> String {
+    let written = || {
+        let text = format!("{angle:?}");
+        text.strip_suffix(".0").unwrap_or(&text).to_owned()
+    };
+    part_of_pi(angle).unwrap_or_else(written)
+}
+
 #[cfg(test)]
 mod tests {
     use super::*;
@@ -93,5 +130,18 @@ mod tests {
             (zero.column, zero.expected.as_str()),
             (3, "a divisor that is not 0")
         );
+    }
+
+    #[test]
+    fn angles_are_written_as_they_are_read() {
+        for written in [
+            "pi", "-pi/2", "3pi/8", "-5pi/32", "0", "-0", "0.1", "-1048576", "5e-324", "1e-7",
+            "2pi",
+        ] {
+            assert_eq!(text(read(written).unwrap()), written);
+        }
+        assert_eq!(text(PI / 8.0 + PI / 8.0), "pi/4");
+        let near = f64::from_bits((PI / 4.0).to_bits() + 1);
+        assert_eq!(read(&text(near)), Ok(near));
     }
 }

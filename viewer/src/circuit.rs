@@ -6,7 +6,7 @@ use midvokt::{ActiveMeasurement, Head, Record, Rotation, LARGEST_CEILING};
 use crate::angle;
 use crate::fields::Fields;
 use crate::line::{quoted, Fault, Line};
-use crate::pauli::{self, Pauli};
+use crate::pauli::{self, active, Pauli, Told};
 
 const HEAD_WORDS: [&str; 4] = ["initial", "max", "expvals", "ceiling"];
 const FIRST_WORDS: &str = "initial, max, expvals, ceiling, rotate, promote, measure, expect, \
@@ -173,8 +173,8 @@ impl Reader {
     }
 }
 
-/// The Pauli of a record: a word, or numbers.
-fn pauli_of(fields: &mut Fields<'_>, width: Option<u64>) -> Result<Pauli, Fault> {
+/// The Pauli of a line: a word, or numbers. A fault tells the width in these words.
+pub fn pauli_of(fields: &mut Fields<'_>, width: Option<u64>, told: Told) -> Result<Pauli, Fault> {
     let mut number = |name| match fields.take(name) {
         Some(word) => word.whole("a whole number").map(Some),
         None => Ok(None),
@@ -193,13 +193,14 @@ fn pauli_of(fields: &mut Fields<'_>, width: Option<u64>) -> Result<Pauli, Fault>
     pauli::parse(
         fields.next("a Pauli such as X_X or X0*X2, or masks such as x=5 z=0 phase=1")?,
         width,
+        told,
     )
 }
 
 /// A rotation about a Pauli.
 fn rotation(line: &Line<'_>, width: Option<u64>) -> Result<Record, Fault> {
     let mut fields = Fields::new(line, &["x", "z", "phase", "sin", "cos"])?;
-    let pauli = pauli_of(&mut fields, width)?;
+    let pauli = pauli_of(&mut fields, width, active)?;
     let angle = angle::parse(fields.next("an angle such as 0.25 or pi/8")?)?;
     let mut given = |name, computed| match fields.take(name) {
         Some(word) => angle::number(word, "a number"),
@@ -249,7 +250,7 @@ fn measured(width: Option<u64>, pauli: Pauli, pivot: u64, expectation: bool) -> 
 /// A measurement that takes a coordinate away.
 fn measurement(line: &Line<'_>, width: Option<u64>) -> Result<Record, Fault> {
     let mut fields = Fields::new(line, &["x", "z", "phase", "pivot"])?;
-    let pauli = pauli_of(&mut fields, width)?;
+    let pauli = pauli_of(&mut fields, width, active)?;
     let pivot = pivot_of(&mut fields)?;
     fields.finish()?;
     Ok(measured(width, pauli, pivot, false))
@@ -261,7 +262,7 @@ fn expectation(line: &Line<'_>, width: Option<u64>) -> Result<Record, Fault> {
     if fields.is_empty() {
         return Ok(Record::expectation());
     }
-    let pauli = pauli_of(&mut fields, width)?;
+    let pauli = pauli_of(&mut fields, width, active)?;
     fields.finish()?;
     Ok(measured(width, pauli, 0, true))
 }
@@ -273,7 +274,7 @@ fn alone(line: &Line<'_>, record: Record) -> Result<Record, Fault> {
 }
 
 /// The text of a file, or the first place that is not UTF-8.
-fn text_of(bytes: &[u8]) -> Result<&str, Fault> {
+pub fn text_of(bytes: &[u8]) -> Result<&str, Fault> {
     // Some editors put a mark in front of UTF-8.
     let bytes = bytes.strip_prefix(b"\xef\xbb\xbf").unwrap_or(bytes);
     std::str::from_utf8(bytes).map_err(|error| {

@@ -51,6 +51,14 @@ impl<'a> Fields<'a> {
         self.named.is_empty() && self.others.is_empty()
     }
 
+    /// The value of a name, if it is given, which is left there.
+    pub fn named(&self, name: &str) -> Option<Word<'a>> {
+        let mut named = self.named.iter();
+        named
+            .find(|(known, _)| *known == name)
+            .map(|&(_, word)| word)
+    }
+
     /// The value of a name, if it is given.
     pub fn take(&mut self, name: &str) -> Option<Word<'a>> {
         let place = self.named.iter().position(|(known, _)| *known == name)?;

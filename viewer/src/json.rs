@@ -14,13 +14,13 @@ use crate::planning::{Planned, View};
 use crate::text::{self, refused_record};
 
 /// The number of this form of the output; another form gets another number.
-const FORMAT: u64 = 1;
+pub const FORMAT: u64 = 1;
 
 /// The fields of an object, each with its value as JSON.
-type Fields = Vec<(&'static str, String)>;
+pub type Fields = Vec<(&'static str, String)>;
 
 /// A text between quotes.
-fn string(text: &str) -> String {
+pub fn string(text: &str) -> String {
     let mut quoted = "\"".to_owned();
     for character in text.chars() {
         match character {
@@ -36,27 +36,27 @@ fn string(text: &str) -> String {
 }
 
 /// An object on one line.
-fn object(fields: &Fields) -> String {
+pub fn object(fields: &Fields) -> String {
     let field = |(name, value): &(&str, String)| format!("{}: {value}", string(name));
     let fields: Vec<_> = fields.iter().map(field).collect();
     format!("{{{}}}", fields.join(", "))
 }
 
 /// An object with a field a line.
-fn tall_object(fields: &Fields) -> String {
+pub fn tall_object(fields: &Fields) -> String {
     let field = |(name, value): &(&str, String)| format!("{}: {value}", string(name));
     let fields: Vec<_> = fields.iter().map(field).collect();
     format!("{{\n{}\n}}", fields.join(",\n"))
 }
 
 /// A list on one line.
-fn list<T: ToString>(values: &[T]) -> String {
+pub fn list<T: ToString>(values: &[T]) -> String {
     let values: Vec<_> = values.iter().map(T::to_string).collect();
     format!("[{}]", values.join(", "))
 }
 
 /// A list with a value a line.
-fn tall_list(values: &[String]) -> String {
+pub fn tall_list(values: &[String]) -> String {
     match values {
         [] => "[]".to_owned(),
         _ => format!("[\n  {}\n]", values.join(",\n  ")),
@@ -64,12 +64,12 @@ fn tall_list(values: &[String]) -> String {
 }
 
 /// A whole number that may pass 2^53: its digits between quotes.
-fn wide<T: ToString>(number: T) -> String {
+pub fn wide<T: ToString>(number: T) -> String {
     string(&number.to_string())
 }
 
 /// A float with all digits that it needs. None of a plan's is infinite or no number.
-fn float(number: f64) -> String {
+pub fn float(number: f64) -> String {
     format!("{number:?}")
 }
 
@@ -79,7 +79,7 @@ fn complex(number: Complex) -> String {
 }
 
 /// A number, or null.
-fn optional<T: ToString>(number: Option<T>) -> String {
+pub fn optional<T: ToString>(number: Option<T>) -> String {
     number.map_or("null".to_owned(), |number| number.to_string())
 }
 

@@ -1,6 +1,7 @@
 //! The command behind ./show: reads a circuit file, plans it through the proved library, and
-//! prints the plan or the refusal; or reads a stored plan and prints that. Nothing in here is proved;
-//! nothing in here plans.
+//! prints the plan or the refusal; or reads a stored plan and prints that; or reads a list of pending
+//! operations, has the library optimize it, and prints it before and after. Nothing in here is proved;
+//! nothing in here plans or optimizes.
 
 mod angle;
 mod choice;
@@ -12,14 +13,20 @@ mod json;
 mod kept;
 mod lanes;
 mod line;
+mod list;
+mod list_json;
+mod list_text;
 mod lives;
 mod notes;
+mod optimizing;
 mod options;
 mod pauli;
+mod places;
 mod planning;
 mod sense;
 mod shapes;
 mod svg;
+mod symbols;
 mod terminal;
 mod text;
 mod trailer;
@@ -33,8 +40,10 @@ use std::process::ExitCode;
 use circuit::Circuit;
 use files::Output;
 use kept::Fault;
-use line::visible;
+use line::{visible, Fault as BadLine};
+use list::List;
 use midvokt::Refusal;
+use optimizing::Optimization;
 use options::{Options, Request, Subject};
 use planning::View;
 
@@ -51,10 +60,14 @@ struct Answer {
     status: u8,
 }
 
-/// The circuit of a file, or all that is to be said of it.
-fn read(path: &Path, name: &str) -> Result<Circuit, String> {
+/// What a file holds, by this way to read it, or all that is to be said of it.
+fn read<T>(
+    path: &Path,
+    name: &str,
+    parse: fn(&[u8]) -> Result<T, Vec<BadLine>>,
+) -> Result<T, String> {
     let bytes = files::read(path).map_err(|error| format!("{name}: cannot be read: {error}\n"))?;
-    circuit::parse(&bytes).map_err(|faults| {
+    parse(&bytes).map_err(|faults| {
         let told = faults.iter().take(MOST_TOLD);
         let mut text: String = told.map(|fault| format!("{name}:{fault}\n")).collect();
         if faults.len() > MOST_TOLD {
@@ -137,7 +150,7 @@ fn stored<'a>(
 /// Plans the circuit, writes the files that are asked for, and gives what is printed.
 fn show(options: &Options, path: &Path) -> Result<Answer, String> {
     let name = path.to_string_lossy();
-    let circuit = read(path, &visible(&name))?;
+    let circuit = read(path, &visible(&name), circuit::parse)?;
     let view = View::of(&name, &circuit);
     let words = options.words.as_ref().map(|path| Output {
         path,
@@ -193,7 +206,37 @@ fn show_stored(options: &Options, path: &Path) -> Result<Answer, String> {
     Ok(planned(options, &view))
 }
 
-/// Shows a circuit's plan or a stored one, where each output is a file of its own.
+/// What is said of a refused list.
+fn refused_list(options: &Options, name: &str, list: &List, refusal: &Refusal) -> Answer {
+    let text = match options.json {
+        true => list_json::refusal(name, list, refusal),
+        false => list_text::refusal(&visible(name), list, refusal, &options.style),
+    };
+    Answer {
+        text,
+        status: REFUSED,
+    }
+}
+
+/// Has a list of pending operations optimized, and gives what is printed.
+fn show_list(options: &Options, path: &Path) -> Result<Answer, String> {
+    let name = path.to_string_lossy();
+    let list = read(path, &visible(&name), list::parse)?;
+    let view = match Optimization::of(&name, &list) {
+        Ok(view) => view,
+        Err(refusal) => return Ok(refused_list(options, &name, &list, &refusal)),
+    };
+    let text = match options.json {
+        true => list_json::optimized(&view),
+        false => list_text::optimized(&view, &options.style),
+    };
+    Ok(Answer {
+        text,
+        status: PLANNED,
+    })
+}
+
+/// Shows a circuit's plan, a stored one or an optimized list, where each output is a file of its own.
 fn show_subject(options: &Options) -> Result<Answer, String> {
     options
         .files_differ()
@@ -201,6 +244,7 @@ fn show_subject(options: &Options) -> Result<Answer, String> {
     match &options.subject {
         Subject::Circuit(path) => show(options, path),
         Subject::Stored(path) => show_stored(options, path),
+        Subject::List(path) => show_list(options, path),
     }
 }
 

@@ -11,10 +11,12 @@ use crate::terminal;
 
 /// What --help prints.
 pub const HELP: &str = "\
-show: plans a circuit through the proved library and shows the plan
+show: plans a circuit through the proved library and shows the plan; or has the
+library optimize a list of pending operations, and shows it before and after
 
   ./show [--json] [--svg FILE] [--words FILE] [--store FILE] [--ascii]
          [--columns N] CIRCUIT          or --stored FILE in place of CIRCUIT
+  ./show --optimize LIST [--json] [--columns N]
 
 CIRCUIT is a file, or - for standard input. One record a line; # is a comment.
   initial N              active coordinates at the start (needed, comes first)
@@ -37,10 +39,23 @@ PAULI  -_ZZ         a sign and a letter for each active coordinate, position 0
                     x, Z sets z, Y both; the sign - adds 2 to it, i 1, each Y 1
 ANGLE  in radians: 0.25, or a part of pi: pi/8, -3pi/4
 
-It prints the choice with both sides of each test; notes on what may be meant
-otherwise; works, and how many times cheaper the split is; dimensions; a line a
-record; the components' lives as lanes; the final groups.
-  --json        the plan, or the refusal, for programs instead (docs/JSON.md)
+LIST is a file, or - for standard input, of operations that are not planned
+yet: a line 'width N' (qubits, 1 to 64), then a line each; # is a comment.
+  rotate PAULI ANGLE [if SIGN]         exp(-i ANGLE PAULI); with SIGN 1, -PAULI
+  measure PAULI [record N] [as sN] [if SIGN]    to record N, known as sN
+  expect PAULI value N [...]           an expectation value in place of an
+                                       outcome: with one, nothing is changed
+  record SIGN [to N] [as sN]           a bit that is written, no qubit touched
+  keep [N]                             nothing crosses this boundary, or the one
+                                       behind the first N operations
+SIGN   s1^s3, an exclusive or of symbols; not s1^s3; 0 or 1
+Of a list it prints how much the library fused, cancelled and moved; the list
+before, with what becomes of each operation; and the list after.
+
+Of a plan it prints the choice with both sides of each test; notes on what may
+be meant otherwise; works, and how many times cheaper the split is; dimensions;
+a line a record; the components' lives as lanes; the final groups.
+  --json        the same, or the refusal, for programs instead (docs/JSON.md)
   --svg FILE    the lanes as a picture besides
   --words FILE  head (4 words, ceiling last) and records (8 each) besides: 64
                 bits each, little-endian
@@ -53,9 +68,9 @@ record; the components' lives as lanes; the final groups.
   --version     the version
 --svg=FILE is --svg FILE; behind -- stands a circuit's name. An output may be
 neither what is read nor another output; where one cannot be written, none is.
-Exit status: 0 planned; 1 refused, or a stored file is no plan; 2 a bad file
-(FILE:LINE:COLUMN: expected ..., found ...), an unreadable one or a bad option;
-3 the viewer cannot be built.
+Exit status: 0 planned or optimized; 1 refused, or a stored file is no plan; 2 a
+bad file (FILE:LINE:COLUMN: expected ..., found ...), an unreadable one or a bad
+option; 3 the viewer cannot be built.
 ";
 
 /// The least and the most columns, and those of text that goes to no terminal.
@@ -68,6 +83,8 @@ pub enum Subject {
     Circuit(PathBuf),
     /// The plan that is stored in this file.
     Stored(PathBuf),
+    /// The list of pending operations in this file, optimized.
+    List(PathBuf),
 }
 
 /// What the command line asks for.
@@ -114,6 +131,7 @@ struct Reader {
     words: Option<PathBuf>,
     store: Option<PathBuf>,
     stored: Option<PathBuf>,
+    optimize: Option<PathBuf>,
     columns: Option<usize>,
     json: bool,
     ascii: bool,
@@ -187,7 +205,7 @@ impl Reader {
     ) -> Result<Next, String> {
         let (name, given) = parted(&word);
         match name.as_str() {
-            "--svg" | "--words" | "--store" | "--stored" => {
+            "--svg" | "--words" | "--store" | "--stored" | "--optimize" => {
                 let file = value(&name, given, words)?.into();
                 once(self.file(&name), &name, file)?;
             }
@@ -197,7 +215,8 @@ impl Reader {
             }
             _ if given.is_some() && name != "--" => {
                 return Err(format!(
-                    "expected --svg=, --words=, --store=, --stored= or --columns=, found {}",
+                    "expected --svg=, --words=, --store=, --stored=, --optimize= or --columns=, \
+                     found {}",
                     shown(&word)
                 ));
             }
@@ -223,7 +242,8 @@ impl Reader {
             "--svg" => &mut self.svg,
             "--words" => &mut self.words,
             "--store" => &mut self.store,
-            _ => &mut self.stored,
+            "--stored" => &mut self.stored,
+            _ => &mut self.optimize,
         }
     }
 
@@ -235,32 +255,45 @@ impl Reader {
         once(&mut self.circuit, "a circuit", word.into())
     }
 
-    /// What is shown: a circuit's plan, or a stored one, with which neither a circuit nor what is made
-    /// of one goes.
+    /// That none of these is given beside an option.
+    fn stands_alone(
+        &self,
+        option: &str,
+        others: &[(&str, &Option<PathBuf>)],
+    ) -> Result<(), String> {
+        let given = others
+            .iter()
+            .find_map(|(name, other)| Some((name, other.as_ref()?)));
+        given.map_or(Ok(()), |(name, other)| {
+            let other = shown(other.as_os_str());
+            Err(format!("expected no {name} beside {option}, found {other}"))
+        })
+    }
+
+    /// What is shown: a circuit's plan, a stored one, with which neither a circuit nor what is made
+    /// of one goes, or an optimized list, with which no picture goes either.
     fn subject(&self) -> Result<Subject, String> {
-        let Some(stored) = &self.stored else {
-            let none = "expected a circuit file or -, found none; --help tells more";
-            return self
-                .circuit
-                .clone()
-                .map(Subject::Circuit)
-                .ok_or(none.to_owned());
-        };
         let others = [
             ("circuit", &self.circuit),
             ("--words", &self.words),
             ("--store", &self.store),
+            ("--svg", &self.svg),
+            ("--stored", &self.stored),
         ];
-        for (name, other) in others {
-            if let Some(other) = other {
-                let other = shown(other.as_os_str());
-                return Err(format!("expected no {name} beside --stored, found {other}"));
-            }
+        if let Some(list) = &self.optimize {
+            self.stands_alone("--optimize", &others)?;
+            return Ok(Subject::List(list.clone()));
         }
-        Ok(Subject::Stored(stored.clone()))
+        if let Some(stored) = &self.stored {
+            self.stands_alone("--stored", &others[..3])?;
+            return Ok(Subject::Stored(stored.clone()));
+        }
+        let none = "expected a circuit file or -, found none; --help tells more";
+        let circuit = self.circuit.clone().map(Subject::Circuit);
+        circuit.ok_or(none.to_owned())
     }
 
-    /// The options, if a circuit or a stored plan is named.
+    /// The options, if a circuit, a stored plan or a list is named.
     fn finish(self) -> Result<Options, String> {
         let subject = self.subject()?;
         let of_terminal = || terminal::columns().unwrap_or(USUAL_COLUMNS);
@@ -298,6 +331,7 @@ impl Options {
         let (read, name) = match &self.subject {
             Subject::Circuit(path) => (path, "the circuit"),
             Subject::Stored(path) => (path, "the stored plan"),
+            Subject::List(path) => (path, "the list"),
         };
         let mut known = vec![
             (Identity::of_read(read), name.to_owned()),

@@ -63,18 +63,35 @@ impl Pauli {
     }
 }
 
-/// Letters for local masks with this phase exponent, position 0 first.
-pub fn letters(pauli: Pauli, width: usize) -> String {
+/// The sign that is left of the phase exponent, with 1 for each Y taken off.
+fn written_sign(pauli: Pauli) -> &'static str {
     let ys = u64::from((pauli.x & pauli.z).count_ones());
-    let sign = ["", "i", "-", "-i"][((pauli.phase + 4 - ys % 4) % 4) as usize];
-    let letter = |position: usize| match (pauli.x >> position & 1, pauli.z >> position & 1) {
+    ["", "i", "-", "-i"][((pauli.phase + 4 - ys % 4) % 4) as usize]
+}
+
+/// The letter at a position.
+fn letter(pauli: Pauli, position: usize) -> char {
+    match (pauli.x >> position & 1, pauli.z >> position & 1) {
         (0, 0) => '_',
         (1, 0) => 'X',
         (0, _) => 'Z',
         _ => 'Y',
-    };
-    let body: String = (0..width).map(letter).collect();
-    format!("{sign}{body}")
+    }
+}
+
+/// Letters for local masks with this phase exponent, position 0 first.
+pub fn letters(pauli: Pauli, width: usize) -> String {
+    let body: String = (0..width).map(|position| letter(pauli, position)).collect();
+    format!("{}{body}", written_sign(pauli))
+}
+
+/// The same as a product of the letters that act; I0 where none does.
+pub fn product(pauli: Pauli) -> String {
+    let acting = (0..MASK_BITS as usize).filter(|&place| (pauli.x | pauli.z) >> place & 1 == 1);
+    let factors = acting.map(|place| format!("{}{place}", letter(pauli, place)));
+    let body = factors.collect::<Vec<_>>().join("*");
+    let body = if body.is_empty() { "I0" } else { &body };
+    format!("{}{body}", written_sign(pauli))
 }
 
 /// The exponent of i that a sign stands for, and how many bytes it has.
@@ -95,8 +112,11 @@ pub fn begins(text: &str) -> bool {
     text[sign(text).1..].starts_with(['X', 'Y', 'Z', 'I', '_'])
 }
 
+/// What a Pauli's length is held to, in words.
+pub type Told = fn(u64) -> String;
+
 /// How many coordinates are active, in words.
-fn active(width: u64) -> String {
+pub fn active(width: u64) -> String {
     match width {
         0 => "no coordinate is active".to_owned(),
         1 => "1 coordinate is active".to_owned(),
@@ -118,7 +138,12 @@ fn bit(place: Word<'_>, letter: char, position: u64) -> Result<u64, Fault> {
 }
 
 /// A letter for each active coordinate.
-fn read_string(body: Word<'_>, width: Option<u64>, pauli: &mut Pauli) -> Result<(), Fault> {
+fn read_string(
+    body: Word<'_>,
+    width: Option<u64>,
+    told: Told,
+    pauli: &mut Pauli,
+) -> Result<(), Fault> {
     let mut length = 0;
     for (byte, letter) in body.text.char_indices() {
         let place = body.at(byte, length as usize);
@@ -127,14 +152,14 @@ fn read_string(body: Word<'_>, width: Option<u64>, pauli: &mut Pauli) -> Result<
             return Err(alone.fault(format!("{LETTERS}, or a product such as X0*X2")));
         }
         if let Some(width) = width.filter(|&width| length >= width) {
-            return Err(place.fault(format!("the Pauli to end here ({})", active(width))));
+            return Err(place.fault(format!("the Pauli to end here ({})", told(width))));
         }
         pauli.act(letter, bit(alone, letter, length)?);
         length += 1;
     }
     match width {
         Some(width) if length < width => Err(body.fault_found(
-            format!("{width} letters, one for each position ({})", active(width)),
+            format!("{width} letters, one for each position ({})", told(width)),
             format!("{length}"),
         )),
         _ => Ok(()),
@@ -152,7 +177,12 @@ fn read_factor(factor: Word<'_>) -> Result<(char, u64), Fault> {
 }
 
 /// Factors with * between, each at its own position.
-fn read_product(body: Word<'_>, width: Option<u64>, pauli: &mut Pauli) -> Result<(), Fault> {
+fn read_product(
+    body: Word<'_>,
+    width: Option<u64>,
+    told: Told,
+    pauli: &mut Pauli,
+) -> Result<(), Fault> {
     let mut seen = HashSet::new();
     let (mut byte, mut column) = (0, 0);
     for text in body.text.split('*') {
@@ -162,7 +192,7 @@ fn read_product(body: Word<'_>, width: Option<u64>, pauli: &mut Pauli) -> Result
         let (letter, position) = read_factor(factor)?;
         let place = factor.from(1);
         if let Some(width) = width.filter(|&width| position >= width) {
-            return Err(place.fault(format!("a position below {width} ({})", active(width))));
+            return Err(place.fault(format!("a position below {width} ({})", told(width))));
         }
         if !seen.insert(position) {
             return Err(place.fault_found("each position once", format!("{position} again")));
@@ -172,9 +202,9 @@ fn read_product(body: Word<'_>, width: Option<u64>, pauli: &mut Pauli) -> Result
     Ok(())
 }
 
-/// The Pauli of a word over so many active coordinates. Where their number is not known,
-/// since an earlier line is bad, the length is held to nothing.
-pub fn parse(word: Word<'_>, width: Option<u64>) -> Result<Pauli, Fault> {
+/// The Pauli of a word over so many positions, of which a fault tells in these words. Where their
+/// number is not known, since an earlier line is bad, the length is held to nothing.
+pub fn parse(word: Word<'_>, width: Option<u64>, told: Told) -> Result<Pauli, Fault> {
     let (phase, bytes) = sign(word.text);
     let mut pauli = Pauli {
         phase,
@@ -183,9 +213,9 @@ pub fn parse(word: Word<'_>, width: Option<u64>) -> Result<Pauli, Fault> {
     let body = word.from(bytes);
     let is_product = |character: char| character.is_ascii_digit() || character == '*';
     if body.text.contains(is_product) {
-        read_product(body, width, &mut pauli)?;
+        read_product(body, width, told, &mut pauli)?;
     } else {
-        read_string(body, width, &mut pauli)?;
+        read_string(body, width, told, &mut pauli)?;
     }
     Ok(pauli)
 }
@@ -201,7 +231,7 @@ mod tests {
             line: 1,
             column: 1,
         };
-        parse(word, Some(width))
+        parse(word, Some(width), active)
     }
 
     /// Masks and phase.

@@ -72,9 +72,13 @@ fn stored_heading(view: &View<'_>, columns: usize) -> String {
     )
 }
 
-/// What may be meant otherwise, a line each; empty where nothing is to be said.
+/// What may be meant otherwise in a circuit, a line each; empty where nothing is to be said.
 fn noted(circuit: &Circuit, columns: usize) -> String {
-    let notes = notes::of(circuit);
+    told_notes(notes::of(circuit), columns)
+}
+
+/// Notes, a line each, the first of them where there are many.
+pub fn told_notes(notes: Vec<String>, columns: usize) -> String {
     let more = match notes.len().saturating_sub(MOST_NOTES) {
         0 => None,
         left => Some(format!(
