@@ -6,12 +6,14 @@ include!(concat!(env!("OUT_DIR"), "/modules.rs"));
 
 pub mod answer;
 pub mod ceiling;
+pub mod differences;
 pub mod expected;
 pub mod generator;
 pub mod guarded;
 pub mod input;
 pub mod instructions;
 pub mod machine;
+pub mod options;
 pub mod output;
 pub mod pending;
 pub mod refusals;

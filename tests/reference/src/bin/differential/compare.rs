@@ -184,7 +184,8 @@ impl Comparison {
         };
         if let Some(found) = found {
             self.tally
-                .differ(index, format!("{found}\n{}", shown.text()));
+                .differences
+                .note(index, format!("{found}\n{}", shown.text()));
         }
         Ok(())
     }

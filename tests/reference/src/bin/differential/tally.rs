@@ -1,5 +1,6 @@
 //! What was counted, and the first difference.
 
+use midvokt_reference::differences::{Differences, add_counts};
 use midvokt_reference::expected::Expected;
 use midvokt_reference::input::Program;
 use midvokt_reference::whole;
@@ -88,8 +89,7 @@ pub struct Tally {
     pub methods: u64,
     /// Results of complex numbers.
     pub numbers: u64,
-    differences: u64,
-    first: Option<(u64, String)>,
+    pub differences: Differences,
 }
 
 /// The numbers that a call at the ceiling 62 can return for a refusal.
@@ -151,24 +151,11 @@ impl Tally {
         }
     }
 
-    /// Notes a difference; the one of the smallest number is told.
-    pub fn differ(&mut self, index: u64, text: String) {
-        self.differences += 1;
-        if self.first.as_ref().is_none_or(|(first, _)| index < *first) {
-            self.first = Some((index, text));
-        }
-    }
-
     /// Adds what another thread has counted.
     pub fn add(&mut self, other: Self) {
-        let add = |mine: &mut [u64], theirs: &[u64]| {
-            mine.iter_mut()
-                .zip(theirs)
-                .for_each(|(mine, theirs)| *mine += theirs);
-        };
-        add(&mut self.answers, &other.answers);
-        add(&mut self.marks, &other.marks);
-        add(&mut self.reached, &other.reached);
+        add_counts(&mut self.answers, &other.answers);
+        add_counts(&mut self.marks, &other.marks);
+        add_counts(&mut self.reached, &other.reached);
         self.ceilings.add(&other.ceilings);
         self.selected += other.selected;
         self.incomparable += other.incomparable;
@@ -178,11 +165,7 @@ impl Tally {
         self.loads.add(&other.loads);
         self.methods += other.methods;
         self.numbers += other.numbers;
-        let before = self.differences + other.differences;
-        if let Some((index, text)) = other.first {
-            self.differ(index, text);
-        }
-        self.differences = before;
+        self.differences.add(other.differences);
     }
 
     /// The refusals that never occurred.
@@ -196,7 +179,7 @@ impl Tally {
 
     /// How many programs differ, and one more where a default does.
     fn all_differences(&self) -> u64 {
-        self.differences + u64::from(self.defaults.first.is_some())
+        self.differences.count + u64::from(self.defaults.first.is_some())
     }
 
     /// Whether nothing differs and every refusal occurred.
@@ -289,9 +272,7 @@ impl Tally {
     /// What differs, and how many programs do.
     fn found(&self) -> Vec<String> {
         let mut lines = Vec::new();
-        if let Some((index, text)) = &self.first {
-            lines.push(format!("program {index} differs: {text}"));
-        }
+        lines.extend(self.differences.first("program"));
         if let Some(found) = &self.defaults.first {
             lines.push(format!("a default differs: {found}"));
         }

@@ -132,7 +132,8 @@ impl Comparison {
         let typed = self.typed(call, &wanted)?;
         if let Some(found) = claims.or_else(|| self.calls(call, &wanted)).or(typed) {
             self.tally
-                .differ(index, format!("{found}\n{}", call.text()));
+                .differences
+                .note(index, format!("{found}\n{}", call.text()));
         }
         Ok(())
     }

@@ -29,6 +29,7 @@ use std::sync::atomic::{AtomicU64, Ordering};
 use compare::Comparison;
 use inputs::Inputs;
 use midvokt_reference::machine::on_all_processors;
+use midvokt_reference::options;
 use tally::Tally;
 
 /// Calls that a thread takes at a time.
@@ -48,24 +49,11 @@ fn options() -> Result<Options, String> {
         count: 200_000,
         spoiled: None,
     };
-    let number = |text: Option<String>| {
-        let text = text.unwrap_or_default();
-        text.parse::<u64>()
-            .map_err(|error| format!("{text:?} is not a number: {error}"))
-    };
-    let mut words = std::env::args().skip(1).peekable();
-    if words.next_if(|word| word == "--spoil").is_some() {
-        options.spoiled = Some(number(words.next())?);
-    }
-    for option in [&mut options.seed, &mut options.count] {
-        if words.peek().is_some() {
-            *option = number(words.next())?;
-        }
-    }
-    match words.next() {
-        None => Ok(options),
-        Some(word) => Err(format!("{word:?} is one word too many")),
-    }
+    options.spoiled = options::read(
+        std::env::args().skip(1),
+        &mut [&mut options.seed, &mut options.count],
+    )?;
+    Ok(options)
 }
 
 /// Compares shares of the calls until none is left.
@@ -101,19 +89,5 @@ fn run(options: &Options) -> Result<bool, String> {
 }
 
 fn main() -> ExitCode {
-    let options = match options() {
-        Ok(options) => options,
-        Err(message) => {
-            eprintln!("optimizing: {message}");
-            return ExitCode::from(2);
-        }
-    };
-    match run(&options) {
-        Ok(true) => ExitCode::SUCCESS,
-        Ok(false) => ExitCode::FAILURE,
-        Err(message) => {
-            eprintln!("optimizing: {message}");
-            ExitCode::from(3)
-        }
-    }
+    options::run("optimizing", options(), run)
 }

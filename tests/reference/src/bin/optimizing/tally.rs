@@ -2,6 +2,7 @@
 
 use std::collections::BTreeMap;
 
+use midvokt_reference::differences::{Differences, add_counts};
 use midvokt_reference::pending::Call;
 use midvokt_reference::pending::answer::{Answer, NO_FORM, NO_PREFIX, NOT_HERMITIAN};
 use midvokt_reference::pending::form::{
@@ -34,8 +35,7 @@ pub struct Tally {
     typed: BTreeMap<u64, u64>,
     /// Optimized lists whose places were asked what is claimed of them, and their fused pairs.
     claimed: [u64; 2],
-    differences: u64,
-    first: Option<(u64, String)>,
+    pub differences: Differences,
 }
 
 impl Default for Tally {
@@ -50,8 +50,7 @@ impl Default for Tally {
             calls: 0,
             typed: BTreeMap::new(),
             claimed: [0; 2],
-            differences: 0,
-            first: None,
+            differences: Differences::default(),
         }
     }
 }
@@ -94,23 +93,10 @@ impl Tally {
         self.claimed[1] += pairs as u64;
     }
 
-    /// Notes a difference; the one of the smallest number is told.
-    pub fn differ(&mut self, index: u64, text: String) {
-        self.differences += 1;
-        if self.first.as_ref().is_none_or(|(first, _)| index < *first) {
-            self.first = Some((index, text));
-        }
-    }
-
     /// Adds what another thread has counted.
     pub fn add(&mut self, other: Self) {
-        let add = |mine: &mut [u64], theirs: &[u64]| {
-            mine.iter_mut()
-                .zip(theirs)
-                .for_each(|(mine, theirs)| *mine += theirs);
-        };
-        add(&mut self.reached, &other.reached);
-        add(&mut self.sizes, &other.sizes);
+        add_counts(&mut self.reached, &other.reached);
+        add_counts(&mut self.sizes, &other.sizes);
         for (fault, count) in other.alone {
             *self.alone.entry(fault).or_default() += count;
         }
@@ -122,12 +108,8 @@ impl Tally {
         }
         self.several += other.several;
         self.calls += other.calls;
-        add(&mut self.claimed, &other.claimed);
-        let before = self.differences + other.differences;
-        if let Some((index, text)) = other.first {
-            self.differ(index, text);
-        }
-        self.differences = before;
+        add_counts(&mut self.claimed, &other.claimed);
+        self.differences.add(other.differences);
     }
 
     /// How many calls this alone is wrong with.
@@ -170,7 +152,7 @@ impl Tally {
 
     /// Whether nothing differs and nothing came too seldom.
     pub fn is_good(&self) -> bool {
-        self.differences == 0 && self.missing().is_empty()
+        self.differences.count == 0 && self.missing().is_empty()
     }
 
     /// The calls with this alone; those of the word in which it came least often, where it can
@@ -216,10 +198,8 @@ impl Tally {
         if !missing.is_empty() {
             lines.push(format!("fewer than {LEAST}: {}", missing.join(", ")));
         }
-        if let Some((index, text)) = &self.first {
-            lines.push(format!("call {index} differs: {text}"));
-        }
-        lines.push(format!("differences {}", self.differences));
+        lines.extend(self.differences.first("call"));
+        lines.push(format!("differences {}", self.differences.count));
         lines.join("\n")
     }
 }
