@@ -1,3 +1,4 @@
+pub mod ByNumber
 pub mod Circuits
 pub mod Ceilings
 pub mod Counting
@@ -28,5 +29,6 @@ pub mod Words
 pub mod Connected
 pub mod Padded
 pub mod Listed
+pub mod Groups
 pub mod Under
 pub mod Worked

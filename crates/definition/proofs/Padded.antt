@@ -33,7 +33,7 @@ abbrev pub Zeroed : List ℕ → List ℕ → Type 0
 Zeroed ws held = (n : ℕ) × (held ≡ padded n ws)
 
 -- an entry of zeros
-zeros_at : (n i : ℕ) → get_or {A = ℕ} (replicate n 0) i 0 ≡ 0
+pub zeros_at : (n i : ℕ) → get_or {A = ℕ} (replicate n 0) i 0 ≡ 0
 zeros_at zero i = refl
 zeros_at (suc n) zero = refl
 zeros_at (suc n) (suc i) = zeros_at n i

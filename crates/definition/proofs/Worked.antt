@@ -17,7 +17,9 @@ use Rattle.definition.specs.WholeWorks.{with_quotient}
 use Rattle.definition.specs.Plan.{Plan, planned, plan_of}
 use Rattle.definition.specs.Circuits.{enough}
 use Rattle.definition.specs.Connectivity.{ActiveOrder, active_start, active_after, with_links, advanced, sets_of, live_at, moments_of, moments, replay_joined, replay_after, longest_of, measurement_at, Connected, replay_members, rotation_at}
+use Rattle.definition.specs.Groups.{group_members, live_below, GroupsListed}
 use Rattle.definition.proofs.Connected.{connected}
+use Rattle.definition.proofs.Groups.{groups_in_order}
 
 -- 1.0 as bits
 abbrev one : ℕ
@@ -155,3 +157,18 @@ lives = refl
 longests : map (longest_of plan 10) (numbers_from 0 5) ≡ 3 ∷ 1 ∷ 1 ∷ 2 ∷ 1 ∷ []
 unfolding replay_after
 longests = refl
+
+-- ---- 02, CR 7
+
+worked_groups : GroupsListed (replay_after plan 10) 0 plan.groups
+unfolding instructions_of
+worked_groups = groups_in_order head words (enough 10) plan premise (omega arith) refl
+
+-- the groups as they are read, and none behind them: bin 0, then bin 3
+groups_read : map (group_members plan.groups) (numbers_from 0 4) ≡ (0 ∷ 2 ∷ []) ∷ (3 ∷ 4 ∷ []) ∷ [] ∷ [] ∷ []
+groups_read = refl
+
+-- how many bins below each number have members
+lives_below : map (live_below (replay_after plan 10)) (numbers_from 0 6) ≡ 0 ∷ 1 ∷ 1 ∷ 1 ∷ 2 ∷ 2 ∷ []
+unfolding replay_after
+lives_below = refl

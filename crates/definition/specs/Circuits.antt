@@ -45,6 +45,24 @@ abbrev pub pairs_pass : List (List ℕ) → Bool
 pairs_pass [] = true
 pairs_pass (r ∷ rs) = cond (eqb (kind r) 0) (sums_to_one (sine r) (cosine r)) true && pairs_pass rs
 
+-- a circuit whose groups come in another order by number than by first member: component 0's own first member was measured away, and component 1 was emptied
+abbrev pub later_first : Circuit
+later_first = record {
+  initial = 6;
+  max_k = 8;
+  expectations = 0;
+  words = (0 ∷ 6 ∷ 0x11 ∷ 0 ∷ 0 ∷ 0 ∷ 0 ∷ 0x3FF0000000000000 ∷ 4 ∷ 6 ∷ 0 ∷ 1 ∷ 0 ∷ 0 ∷ 0 ∷ 0 ∷ 4 ∷ 5 ∷ 0 ∷ 1 ∷ 0 ∷ 0 ∷ 0 ∷ 0 ∷ 0 ∷ 4 ∷ 0xA ∷ 0 ∷ 0 ∷ 0 ∷ 0 ∷ 0x3FF0000000000000 ∷ []);
+  answer =
+      (0 ∷ 6 ∷ 6 ∷ 0x4071000000000000 ∷ 0x4064800000000000 ∷ 256 ∷ 12 ∷ 16 ∷ 2 ∷ 272 ∷ 164 ∷ 1 ∷ 108 ∷ [])
+      ∷ (2 ∷ 0 ∷ 4 ∷ 0 ∷ 4 ∷ 1 ∷ 2 ∷ 1 ∷ [])
+      ∷ (0 ∷ 4 ∷ 0 ∷ 1 ∷ 3 ∷ 5 ∷ [])
+      ∷ (2 ∷ 1 ∷ 1 ∷ 2 ∷ 1 ∷ 1 ∷ [])
+      ∷ (0 ∷ 0 ∷ 2 ∷ 2 ∷ 3 ∷ 0 ∷ 0x3FF0000000000000 ∷ 0 ∷ 0xBFF0000000000000 ∷ 0x8000000000000000 ∷ 0 ∷ 0 ∷ 1 ∷ 0 ∷ 1 ∷ 2 ∷ 0 ∷ 0x3FF0000000000000 ∷ 0 ∷ 0 ∷ 0 ∷ 3 ∷ 4 ∷ 2 ∷ 2 ∷ 3 ∷ 0 ∷ 0x3FF0000000000000 ∷ 0 ∷ 0xBFF0000000000000 ∷ 0x8000000000000000 ∷ 0 ∷ 0 ∷ 1 ∷ 0 ∷ 1 ∷ 2 ∷ 0 ∷ 0x3FF0000000000000 ∷ 0 ∷ 0 ∷ 0 ∷ [])
+      ∷ []
+      ∷ (0 ∷ 2 ∷ 1 ∷ 2 ∷ 0 ∷ 1 ∷ 0x3FF0000000000000 ∷ 0 ∷ 0xBFF0000000000000 ∷ 0x8000000000000000 ∷ 0 ∷ 0 ∷ 1 ∷ 0 ∷ 0 ∷ 2 ∷ 0x3FE6A09E667F3BCD ∷ 0x8000000000000000 ∷ 0 ∷ 1 ∷ 3 ∷ 1 ∷ 1 ∷ 0 ∷ 1 ∷ 0x3FF0000000000000 ∷ 0 ∷ 0xBFF0000000000000 ∷ 0x8000000000000000 ∷ 0 ∷ 0 ∷ 1 ∷ 0 ∷ 0 ∷ 1 ∷ 0x3FE6A09E667F3BCD ∷ 0x8000000000000000 ∷ 1 ∷ [])
+      ∷ (1 ∷ 4 ∷ 1 ∷ 2 ∷ 2 ∷ 3 ∷ 5 ∷ []) ∷ [];
+}
+
 unfoldable pub circuits : List Circuit
 circuits =
     -- max_k 62: 1.
@@ -453,4 +471,6 @@ circuits =
           ∷ (0 ∷ 0 ∷ 1 ∷ 1 ∷ 1 ∷ 0 ∷ 0x3FF0000000000000 ∷ 0 ∷ 0xBFF0000000000000 ∷ 0x8000000000000000 ∷ 0 ∷ 0 ∷ 0 ∷ 0 ∷ 0 ∷ 1 ∷ 0x3FE6A09E667F3BCD ∷ 0x8000000000000000 ∷ 1 ∷ [])
           ∷ (1 ∷ 1 ∷ 1 ∷ 2 ∷ 1 ∷ 3 ∷ 1 ∷ 4 ∷ 1 ∷ 5 ∷ 1 ∷ 6 ∷ 1 ∷ 7 ∷ 1 ∷ 8 ∷ 1 ∷ 9 ∷ 1 ∷ 10 ∷ 1 ∷ 11 ∷ 1 ∷ 12 ∷ 1 ∷ 13 ∷ 1 ∷ 14 ∷ 1 ∷ 15 ∷ 1 ∷ 16 ∷ 1 ∷ 17 ∷ 1 ∷ 18 ∷ 1 ∷ 19 ∷ 1 ∷ 20 ∷ 1 ∷ 21 ∷ 1 ∷ 22 ∷ 1 ∷ 23 ∷ 1 ∷ 24 ∷ 1 ∷ 25 ∷ 1 ∷ 26 ∷ 1 ∷ 27 ∷ 1 ∷ 28 ∷ 1 ∷ 29 ∷ 1 ∷ 30 ∷ 1 ∷ 31 ∷ 1 ∷ 32 ∷ 1 ∷ 33 ∷ 1 ∷ 34 ∷ 1 ∷ 35 ∷ 1 ∷ 36 ∷ 1 ∷ 37 ∷ 1 ∷ 38 ∷ []) ∷ [];
     }
+    -- further: number order and order of first members differ
+    ∷ later_first
     ∷ []

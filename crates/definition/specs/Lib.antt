@@ -6,4 +6,5 @@ pub mod Plan
 pub mod Circuits
 pub mod Connectivity
 pub mod Sources
+pub mod Groups
 pub mod Laws
