@@ -1,7 +1,7 @@
--- Demand 3, the sources of each join, and the laws of the whole works, of the ceiling and of a rotation's squares, of what a call leaves: its contract says that the answer's fields are those of the definition's plan and that each buffer holds that plan's words and
+-- Demand 3, the sources of each join, the group list, and the laws of the whole works, of the ceiling and of a rotation's squares, of what a call leaves: its contract says that the answer's fields are those of the definition's plan and that each buffer holds that plan's words and
 -- zeros behind them, and the claims that hold of a plan hold of its words followed by zeros.
 use Rattle.std.specs.Prelude.{Result as Answered, Ok}
-use Prim.Native.Nat.{ℕ, ◌/◌, ◌≤◌, ◌<◌}
+use Prim.Native.Nat.{ℕ, ◌-◌, ◌/◌, ◌≤◌, ◌<◌}
 use native.Mathlib.Omega.{arith}
 use mathlib.Core.Path.{◌≡◌, refl, sym, ap, ◌∙◌, subst, subst₂}
 use mathlib.Core.List.{List}
@@ -12,14 +12,16 @@ use Rattle.records.specs.Sound.{UnitPair}
 use Rattle.records.specs.declared.Head.{Head}
 use Rattle.definition.specs.WholeWorks.{WholeWorks}
 use Rattle.definition.specs.Plan.{Lengths, Plan, Result, planned, refused_at, plan_of, padded}
-use Rattle.definition.specs.Connectivity.{Connected}
+use Rattle.definition.specs.Connectivity.{Connected, replay_after}
 use Rattle.definition.specs.Sources.{SourcesListed}
+use Rattle.definition.specs.Groups.{GroupsListed}
 use Rattle.definition.specs.Laws.{Agree, TooWideExactly, HasDimensions, under, HoldsPlan}
 use Rattle.definition.proofs.Accepted.{accepted}
 use Rattle.definition.proofs.Squares.{rotation_squares}
 use Rattle.definition.proofs.Connected.{read_head, connected}
 use Rattle.definition.proofs.Padded.{Pads, zeroed_at, connected_padded}
 use Rattle.definition.proofs.Listed.{listed_padded}
+use Rattle.definition.proofs.Groups.{groups_padded}
 use Rattle.definition.proofs.WholeWorks.{works_agree, too_wide_exactly}
 use Rattle.definition.proofs.Under.{plan_dimensions, dimensions_padded, same_plan}
 use Rattle.tally.specs.Tally.{works_of}
@@ -83,6 +85,19 @@ call_sources h ws before after r a wide none =
     let used = planned_used result r a.answer p found.1 in
     subst (λ (n : WordCounts). SourcesListed h.initial_k (instructions_of ws) (plan_in r after) (n.rotations / 21) (n.measurements / 19)) used
     (listed_padded h ws (lengths_of before) p (plan_in r after) (accepted h ws (lengths_of before) p (read_head h wide none) found.1) found.2)
+
+-- 02, CR 7, of the answer and the buffers that a call leaves: the lent groups hold the group list of the components that steps, rows and merge list give back, and
+-- zeros behind it
+pub call_groups : (h : Head) (ws : List ℕ) (before after : Buffers) (r : ActiveComponentPlan)
+    → Answers h ws before after (Ok r) → 8 ≤ h.max_k → h.nexpvals ≡ 0
+    → (zeros : ℕ) × GroupsListed (replay_after (plan_in r after) (length (instructions_of ws))) zeros after.groups
+call_groups h ws before after r a wide none =
+    let result = plan_of h ws (lengths_of before) in
+    let found = planned_pads result before after r a.answer a.held in
+    let p = found.0 in
+    let held = subst (λ (x : Result). Held x before after) found.1 a.held in
+    let zeros = length before.groups - length p.groups in
+    (zeros, groups_padded h ws (lengths_of before) p (plan_in r after) (accepted h ws (lengths_of before) p (read_head h wide none) found.1) found.2 zeros held.groups)
 
 -- an answer that is a plan has the definition's works
 planned_works : (result : Result) (r : ActiveComponentPlan) → outcome_of (Ok r) ≡ outcome_in result
