@@ -215,9 +215,10 @@ enum midvokt_measurement_word {
  *                coefficient, negated if odd(d & z) ^ s is 1
  *                The squares of the new amplitudes add up to the outcome's probability. */
 
-/* Groups: for each component that lives at the end, a member count and then its members, which
- * are coordinates, in order. Each stands there once; in which order they come is left open. A
- * count of 0, or the end of the buffer, ends them. */
+/* Groups: for each component that lives at the end, that is, still has members, a member count
+ * and its members, which are coordinates, in order. Groups come by ascending component number,
+ * each once: the first is the live component with the smallest number, and so on. A count of 0,
+ * or the end of the buffer, ends them. */
 
 /* The result. After a refusal words 1 to 13 are 0. A shorter result gets its first words, and
  * words behind the fourteenth are zero. A component of n members has the dimension 2 to the

@@ -1,10 +1,10 @@
 /*
  * Plans a small circuit through the C interface and prints the plan: three coordinates, a
  * rotation with x = 5, then a measurement with z = 6 and pivot 2. Then the works as whole
- * numbers, of programs that differ in what is given of them; a rotation of nine coordinates under
- * several ceilings; rotations whose sine and cosine are of one angle and of none; and the small
- * circuit with a max_k that is refused. `check` compares what is printed with plan.expected. C99
- * and C++11.
+ * numbers, of programs that differ in what is given of them; groups whose order by component
+ * number is not that of their first members; a rotation of nine coordinates under several
+ * ceilings; rotations whose sine and cosine are of one angle and of none; and the small circuit
+ * with a max_k that is refused. `check` compares what is printed with plan.expected. C99 and C++11.
  */
 #include <inttypes.h>
 #include <stdio.h>
@@ -13,6 +13,9 @@
 #include "midvokt.h"
 
 #define RECORDS 2
+
+/* The most records that are planned here. */
+#define MOST_RECORDS 4
 
 /* Cosine of the angle 0. */
 #define ONE UINT64_C(0x3ff0000000000000)
@@ -39,17 +42,26 @@ static const uint64_t nine[MIDVOKT_RECORD_WORDS] = {
     MIDVOKT_KIND_ROTATION, 10, 0x1ff, 0, 0, 0, 0, ONE,
 };
 
+/* Of six coordinates: 0 and 4 join, 0 and 1 are measured away, 3 and 5 join. Then components 0, 2
+ * and 3 live. */
+static const uint64_t four[4 * MIDVOKT_RECORD_WORDS] = {
+    MIDVOKT_KIND_ROTATION, 6, 0x11, 0, 0, 0, 0, ONE,
+    MIDVOKT_KIND_ACTIVE_MEASUREMENT, 6, 0, 1, 0, 0, 0, 0,
+    MIDVOKT_KIND_ACTIVE_MEASUREMENT, 5, 0, 1, 0, 0, 0, 0,
+    MIDVOKT_KIND_ROTATION, 4, 0xa, 0, 0, 0, 0, ONE,
+};
+
 /* What the controller holds. */
 static uint64_t ceiling = MIDVOKT_LARGEST_CEILING;
 
-/* Just long enough for two records. */
-static uint64_t steps[MIDVOKT_STEPS_WORDS(RECORDS)];
-static uint64_t merges[MIDVOKT_MERGES_WORDS(RECORDS)];
-static uint64_t sizes[MIDVOKT_SIZES_WORDS(RECORDS)];
-static uint64_t rotations[MIDVOKT_ROTATIONS_WORDS(RECORDS)];
-static uint64_t promotions[MIDVOKT_PROMOTIONS_WORDS(RECORDS)];
-static uint64_t measurements[MIDVOKT_MEASUREMENTS_WORDS(RECORDS)];
-static uint64_t groups[MIDVOKT_GROUPS_WORDS(RECORDS)];
+/* Just long enough for the most records. */
+static uint64_t steps[MIDVOKT_STEPS_WORDS(MOST_RECORDS)];
+static uint64_t merges[MIDVOKT_MERGES_WORDS(MOST_RECORDS)];
+static uint64_t sizes[MIDVOKT_SIZES_WORDS(MOST_RECORDS)];
+static uint64_t rotations[MIDVOKT_ROTATIONS_WORDS(MOST_RECORDS)];
+static uint64_t promotions[MIDVOKT_PROMOTIONS_WORDS(MOST_RECORDS)];
+static uint64_t measurements[MIDVOKT_MEASUREMENTS_WORDS(MOST_RECORDS)];
+static uint64_t groups[MIDVOKT_GROUPS_WORDS(MOST_RECORDS)];
 static uint64_t result[MIDVOKT_RESULT_WORDS];
 
 #define LENGTH(words) (sizeof(words) / sizeof(words)[0])
@@ -164,7 +176,7 @@ static void print_step(uint64_t record)
     }
 }
 
-/* The components that live at the end. */
+/* The components that live at the end, by their numbers. */
 static void print_groups(void)
 {
     size_t place = 0;
@@ -259,6 +271,16 @@ static int rest_is_zero(void)
     return 1;
 }
 
+/* Plans the four and prints the groups; tells whether they are components 0, 2 and 3. */
+static int try_groups(void)
+{
+    static const uint64_t wanted[] = {1, 4, 1, 2, 2, 3, 5, 0};
+    uint64_t number = plan_into(6, 8, LENT(four), LENGTH(result));
+    printf("groups by component number: number %" PRIu64 "\n", number);
+    print_groups();
+    return number == MIDVOKT_PLANNED && memcmp(groups, wanted, sizeof wanted) == 0;
+}
+
 /* Plans the nine under a ceiling, prints the number and the longest size, and tells whether the
  * number is the one that is wanted. */
 static int try_ceiling(uint64_t held, uint64_t max_k, uint64_t wanted)
@@ -339,6 +361,7 @@ int main(void)
     right &= try_works("a global phase", 0, 8, LENT(ignored));
     right &= try_works("unread", UINT64_MAX, 7, LENT(promotion));
     right &= nine_are_the_same();
+    right &= try_groups();
     right &= try_ceilings();
     right &= try_pairs();
     number = plan(62);

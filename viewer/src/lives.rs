@@ -242,14 +242,10 @@ impl Replay {
         self.change_deed(Deed::Measurement { leaves, empties });
     }
 
-    /// Whether these groups are the components that live at the end.
+    /// Whether these groups are the components that live at the end, by their numbers.
     pub fn ends_with(&self, groups: &[Vec<usize>]) -> bool {
         let live = self.members.iter().filter(|members| !members.is_empty());
-        let mut live: Vec<_> = live.collect();
-        let mut groups: Vec<_> = groups.iter().collect();
-        live.sort();
-        groups.sort();
-        live == groups
+        live.eq(groups)
     }
 }
 
@@ -258,14 +254,19 @@ mod tests {
     use super::*;
     use midvokt::{plan, ActiveComponentPlan, Head, Record, LARGEST_CEILING};
 
-    /// Three coordinates: two joins, a promotion, and measurements until one member is left.
-    fn planned() -> ActiveComponentPlan {
+    /// The plan of records from so many coordinates.
+    fn plan_of(initial_k: u64, records: &[Record]) -> ActiveComponentPlan {
         let head = Head {
-            initial_k: 3,
+            initial_k,
             max_k: 8,
             nexpvals: 0,
             ceiling: LARGEST_CEILING,
         };
+        plan(&head, records).unwrap()
+    }
+
+    /// Three coordinates: two joins, a promotion, and measurements until one member is left.
+    fn planned() -> ActiveComponentPlan {
         let records = [
             Record::rotation(3, 5, 0, 0, 0.0),
             Record::measurement(3, 0, 6, 0, 2),
@@ -273,7 +274,7 @@ mod tests {
             Record::Promotion,
             Record::measurement(3, 0, 4, 0, 2),
         ];
-        plan(&head, &records).unwrap()
+        plan_of(3, &records)
     }
 
     /// The plan followed.
@@ -341,6 +342,24 @@ mod tests {
         let mut plan = planned();
         plan.groups[0].swap(0, 1);
         assert!(!followed().ends_with(&plan.groups));
+    }
+
+    /// Components 0, 2 and 3 live at the end, and their first members are 4, 2 and 3.
+    #[test]
+    fn groups_in_another_order_do_not_agree() {
+        let records = [
+            Record::rotation(6, 0x11, 0, 0, 0.0),
+            Record::measurement(6, 0, 1, 0, 0),
+            Record::measurement(5, 0, 1, 0, 0),
+            Record::rotation(4, 0xa, 0, 0, 0.0),
+        ];
+        let mut plan = plan_of(6, &records);
+        let replay = Replay::of(&StoredPlan::from(plan.clone())).unwrap();
+        assert!(replay.ends_with(&plan.groups));
+        plan.groups.sort();
+        assert!(!replay.ends_with(&plan.groups));
+        plan.groups.pop();
+        assert!(!replay.ends_with(&plan.groups));
     }
 
     #[test]

@@ -116,7 +116,7 @@ pub struct Buffers<'a> {
     pub promotions: &'a mut [u64],
     /// Measurement rows.
     pub measurements: &'a mut [u64],
-    /// The components that live at the end.
+    /// The components that live at the end, by ascending number.
     pub groups: &'a mut [u64],
 }
 
@@ -165,14 +165,15 @@ impl Buffers<'_> {
         part(self.merges, merge_offset, merge_count).unwrap_or(&[])
     }
 
-    /// The members, which are coordinates, of each component that lives at the end. Each stands
-    /// there once; in which order they come is left open.
+    /// The members, which are coordinates, of each component that lives at the end, by ascending
+    /// component number, each once: the first is the live component with the smallest number, and
+    /// so on.
     pub fn groups(&self) -> Groups<'_> {
         Groups { left: self.groups }
     }
 }
 
-/// The groups of a plan, one after the other.
+/// The groups of a plan, one after the other, by ascending component number.
 #[derive(Clone, Debug)]
 pub struct Groups<'a> {
     left: &'a [u64],

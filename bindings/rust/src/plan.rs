@@ -47,7 +47,8 @@ pub struct ActiveComponentPlan {
     /// Both works as whole numbers, and how many times cheaper the split is.
     pub whole_works: WholeWorks,
     /// The members, which are coordinates in the order of local bits, of each component that lives
-    /// at the end. Each stands there once; in which order they come is left open.
+    /// at the end, by ascending component number, each once: the first is the live component with
+    /// the smallest number, and so on.
     pub groups: Vec<Vec<usize>>,
 }
 

@@ -149,6 +149,24 @@ fn lent_buffers_give_the_same_plan() {
 }
 
 #[test]
+fn groups_come_by_component_number() {
+    let records = [
+        rotation(6, 0x11, 0.0),
+        Record::measurement(6, 0, 1, 0, 0),
+        Record::measurement(5, 0, 1, 0, 0),
+        rotation(4, 0xa, 0.0),
+    ];
+    // Components 0, 2 and 3; the first member of component 0 was measured away.
+    let wanted = [vec![4], vec![2], vec![3, 5]];
+    assert_eq!(plan(&head(6), &records).unwrap().groups, wanted);
+    let mut noise = Noise::of(Lengths::for_records(4));
+    let (mut buffers, _) = noise.lend();
+    plan_into(&head(6), &encode(&records), &mut buffers).unwrap();
+    assert_eq!(buffers.groups[..8], [1, 4, 1, 2, 2, 3, 5, 0]);
+    assert!(buffers.groups().eq([&[4][..], &[2], &[3, 5]]));
+}
+
+#[test]
 fn refusals_have_reason_and_record() {
     let refused = |initial_k, records: &[Record]| plan(&head(initial_k), records).unwrap_err();
     let found = refused(2, &[Record::Promotion, Record::measurement(3, 0, 0, 0, 0)]);
