@@ -45,4 +45,16 @@ impl Expected {
             }
         }
     }
+
+    /// The members of each group.
+    pub fn groups(&self) -> Vec<&[u64]> {
+        let mut words = &self.outputs[6][..];
+        let mut groups = Vec::new();
+        while let Some((&size, rest)) = words.split_first() {
+            let (members, left) = rest.split_at(size as usize);
+            groups.push(members);
+            words = left;
+        }
+        groups
+    }
 }

@@ -147,7 +147,7 @@ fn prepared(program: Program, room: &mut Room) -> Result<Prepared, String> {
             ceiling: program.ceiling,
         },
         rust: rust_program(&program, &program.records())?,
-        live: groups_in(&expected.outputs[6]),
+        live: expected.groups().len(),
         words: program.words.clone(),
     };
     room.make_noise(SEED);
@@ -160,16 +160,6 @@ fn prepared(program: Program, room: &mut Room) -> Result<Prepared, String> {
             program.text()
         ))
     }
-}
-
-/// How many groups these words hold.
-fn groups_in(mut words: &[u64]) -> usize {
-    let mut count = 0;
-    while let Some((&size, rest)) = words.split_first() {
-        count += 1;
-        words = &rest[size as usize..];
-    }
-    count
 }
 
 /// The positions that a record touches, where planning reads them.

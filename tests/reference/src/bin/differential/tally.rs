@@ -75,6 +75,8 @@ pub struct Tally {
     /// Plans by the mark of their whole works.
     marks: [u64; MARKS.len()],
     reached: [u64; REACHED.len()],
+    /// Plans whose groups come in another order than their first members.
+    reordered: u64,
     pub ceilings: Ceilings,
     pub incomparable: u64,
     pub calls: u64,
@@ -97,16 +99,6 @@ fn refusals() -> impl Iterator<Item = usize> {
     (1..=LAST_REFUSAL).chain([SQUARES])
 }
 
-/// The member counts of a plan's groups.
-fn group_sizes(mut words: &[u64]) -> Vec<u64> {
-    let mut sizes = Vec::new();
-    while let Some((&size, rest)) = words.split_first() {
-        sizes.push(size);
-        words = &rest[size as usize..];
-    }
-    sizes
-}
-
 /// The greatest number of sources that a row names.
 fn most_sources(expected: &Expected) -> u64 {
     let rotations = expected.outputs[3].chunks_exact(21);
@@ -127,7 +119,9 @@ impl Tally {
         }
         self.selected += expected.result[1];
         self.marks[expected.result[9] as usize] += 1;
-        let sizes = group_sizes(&expected.outputs[6]);
+        let groups = expected.groups();
+        self.reordered += u64::from(!groups.is_sorted_by_key(|members| members[0]));
+        let sizes: Vec<_> = groups.iter().map(|members| members.len()).collect();
         let longest = expected.outputs[2].iter().max().copied().unwrap_or(0);
         let widths = whole::widths(program);
         let widest = widths.iter().max().copied().unwrap_or(0);
@@ -135,7 +129,7 @@ impl Tally {
         let reached = [
             expected.outputs[0].len() >= 2 * 100,
             expected.outputs[0].len() == 2 * 1024,
-            sizes.iter().sum::<u64>() > 62,
+            sizes.iter().sum::<usize>() > 62,
             sizes.is_empty() && expected.result[3] > 0 && !program.words.is_empty(),
             longest >= 30,
             sizes.iter().filter(|&&size| size >= 30).count() >= 2,
@@ -156,6 +150,7 @@ impl Tally {
         add_counts(&mut self.answers, &other.answers);
         add_counts(&mut self.marks, &other.marks);
         add_counts(&mut self.reached, &other.reached);
+        self.reordered += other.reordered;
         self.ceilings.add(&other.ceilings);
         self.selected += other.selected;
         self.incomparable += other.incomparable;
@@ -182,9 +177,9 @@ impl Tally {
         self.differences.count + u64::from(self.defaults.first.is_some())
     }
 
-    /// Whether nothing differs and every refusal occurred.
+    /// Whether nothing differs, every refusal occurred, and so did groups whose order tells.
     pub fn is_good(&self) -> bool {
-        self.all_differences() == 0 && self.missing().is_empty()
+        self.all_differences() == 0 && self.missing().is_empty() && self.reordered > 0
     }
 
     /// What programs under ceilings never came to.
@@ -288,6 +283,10 @@ impl Tally {
         lines.extend(marks.map(|(name, count)| format!("plans {name}: {count}")));
         let reached = REACHED.iter().zip(self.reached);
         lines.extend(reached.map(|(name, count)| format!("plans with {name}: {count}")));
+        lines.push(format!(
+            "plans with groups in another order than their first members: {}",
+            self.reordered
+        ));
         let (defaults, methods) = (self.defaults.count, self.compared_methods());
         lines.push(self.compared_calls());
         lines.push(format!("defaults compared {defaults}, {methods}"));
