@@ -289,7 +289,7 @@ fn stored_opening(name: &str, refusal: String, senseless: String) -> Fields {
     ]
 }
 
-/// The members of each component that lives at the end.
+/// The members of each component that lives at the end, by ascending number.
 fn groups(planned: &Planned<'_>) -> String {
     let groups: Vec<_> = planned.groups.iter().map(|members| list(members)).collect();
     list(&groups)

@@ -18,7 +18,7 @@ pub struct Planned<'a> {
     pub circuit: &'a Circuit,
     /// The works as whole numbers.
     pub whole_works: WholeWorks,
-    /// The members of each component that lives at the end.
+    /// The members of each component that lives at the end, by ascending number.
     pub groups: Vec<Vec<usize>>,
 }
 

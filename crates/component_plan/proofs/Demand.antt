@@ -86,8 +86,8 @@ call_sources h ws before after r a wide none =
     subst (λ (n : WordCounts). SourcesListed h.initial_k (instructions_of ws) (plan_in r after) (n.rotations / 21) (n.measurements / 19)) used
     (listed_padded h ws (lengths_of before) p (plan_in r after) (accepted h ws (lengths_of before) p (read_head h wide none) found.1) found.2)
 
--- 02, CR 7, of the answer and the buffers that a call leaves: the lent groups hold the group list of the components that steps, rows and merge list give back, and
--- zeros behind it
+-- 02, CR 7, of the answer and the buffers that a call leaves: the lent groups hold the group list of the components that initial_components, steps, rows and merge
+-- list give back, and zeros behind it
 pub call_groups : (h : Head) (ws : List ℕ) (before after : Buffers) (r : ActiveComponentPlan)
     → Answers h ws before after (Ok r) → 8 ≤ h.max_k → h.nexpvals ≡ 0
     → (zeros : ℕ) × GroupsListed (replay_after (plan_in r after) (length (instructions_of ws))) zeros after.groups

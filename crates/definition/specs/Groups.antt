@@ -1,5 +1,5 @@
 -- 02, CR 7: "Groups now come by ascending component number": the group list is exactly the components that have members, each once, by their numbers. Said of 01's bins,
--- section 5, which are read off steps, rows and merge list alone; nothing here says how the list is made.
+-- section 5, which are read off initial_components, steps, rows and merge list alone; nothing here says how the list is made.
 use Rattle.std.specs.Prelude.{ℕ, zero, suc, ◌+◌, ◌≤◌, ◌<◌, ◌≡◌, ◌↔◌, List, [], ◌∷◌, ◌++◌, map, length, get_or, take, drop, replicate}
 use Rattle.definition.specs.Lists.{concat}
 use Rattle.definition.specs.Connectivity.{Member, Replayed}

@@ -84,8 +84,8 @@ unread h = ltb h.max_k 8 || not (eqb h.nexpvals 0)
 
 -- ---- the plan of a finished walk
 
--- "Groups (added): final live components, each a member count and its members in order"; 02, CR 7: "Groups now come by ascending component number". These are the
--- components by number, from some number on
+-- "Groups (added): final live components, each a member count and its members in order"; 02, CR 7: "Groups now come by ascending component number",
+-- in which the argument lists the components
 abbrev pub groups_of : List (List ℕ) → List ℕ
 groups_of [] = []
 groups_of ([] ∷ cs) = groups_of cs

@@ -17,8 +17,8 @@
 //! COUNT random programs at 62 and CEILINGS under other ceilings. The programs under ceilings have
 //! the numbers behind the others for --spoil.
 //!
-//! Exit status: 0 no difference, 1 a difference or a refusal that never occurred, 2 a
-//! malformed option, 3 anything that was not foreseen.
+//! Exit status: 0 no difference, 1 a difference, or a refusal or groups in another order than
+//! their first members that never occurred, 2 a malformed option, 3 anything that was not foreseen.
 
 mod ceilings;
 mod compare;

@@ -177,7 +177,8 @@ impl Tally {
         self.differences.count + u64::from(self.defaults.first.is_some())
     }
 
-    /// Whether nothing differs, every refusal occurred, and so did groups whose order tells.
+    /// Whether nothing differs, every refusal occurred, and so did groups in another order than
+    /// their first members.
     pub fn is_good(&self) -> bool {
         self.all_differences() == 0 && self.missing().is_empty() && self.reordered > 0
     }
