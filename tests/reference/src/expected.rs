@@ -57,4 +57,40 @@ impl Expected {
         }
         groups
     }
+
+    /// Whether the groups come in another order than their first members.
+    pub fn is_reordered(&self) -> bool {
+        !self.groups().is_sorted_by_key(|members| members[0])
+    }
+}
+
+#[cfg(test)]
+mod tests {
+    use super::*;
+
+    /// A plan of these groups, which has nothing else.
+    fn with_groups(words: &[u64]) -> Expected {
+        let mut outputs: [Vec<u64>; 7] = Default::default();
+        outputs[6] = words.to_vec();
+        Expected {
+            number: 0,
+            result: [0; RESULT_WORDS],
+            outputs,
+        }
+    }
+
+    #[test]
+    fn groups_are_read_one_after_the_other() {
+        let expected = with_groups(&[1, 4, 1, 2, 2, 3, 5]);
+        assert_eq!(expected.groups(), [&[4][..], &[2], &[3, 5]]);
+        assert!(with_groups(&[]).groups().is_empty());
+    }
+
+    #[test]
+    fn an_order_tells_where_first_members_do_not_ascend() {
+        assert!(with_groups(&[1, 4, 1, 2, 2, 3, 5]).is_reordered());
+        assert!(!with_groups(&[1, 2, 2, 3, 5, 1, 4]).is_reordered());
+        assert!(!with_groups(&[2, 3, 1]).is_reordered());
+        assert!(!with_groups(&[]).is_reordered());
+    }
 }

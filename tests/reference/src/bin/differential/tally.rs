@@ -33,6 +33,9 @@ const REACHED: [&str; 12] = [
     "39 coordinates or more in between, fewer at the start and the end",
 ];
 
+/// What at least one plan has to have, so that the order of groups is compared where it tells.
+const REORDERED: &str = "groups in another order than their first members";
+
 /// What the marks of the whole works say.
 const MARKS: [&str; 3] = [
     "too wide for whole works",
@@ -119,8 +122,8 @@ impl Tally {
         }
         self.selected += expected.result[1];
         self.marks[expected.result[9] as usize] += 1;
+        self.reordered += u64::from(expected.is_reordered());
         let groups = expected.groups();
-        self.reordered += u64::from(!groups.is_sorted_by_key(|members| members[0]));
         let sizes: Vec<_> = groups.iter().map(|members| members.len()).collect();
         let longest = expected.outputs[2].iter().max().copied().unwrap_or(0);
         let widths = whole::widths(program);
@@ -284,16 +287,16 @@ impl Tally {
         lines.extend(marks.map(|(name, count)| format!("plans {name}: {count}")));
         let reached = REACHED.iter().zip(self.reached);
         lines.extend(reached.map(|(name, count)| format!("plans with {name}: {count}")));
-        lines.push(format!(
-            "plans with groups in another order than their first members: {}",
-            self.reordered
-        ));
+        lines.push(format!("plans with {REORDERED}: {}", self.reordered));
         let (defaults, methods) = (self.defaults.count, self.compared_methods());
         lines.push(self.compared_calls());
         lines.push(format!("defaults compared {defaults}, {methods}"));
         lines.extend(self.compared_files());
         if !self.missing().is_empty() {
             lines.push(format!("never refused: {}", self.missing().join(", ")));
+        }
+        if self.reordered == 0 {
+            lines.push(format!("never occurred: {REORDERED}"));
         }
         lines.extend(self.found());
         lines.join("\n")
