@@ -11,6 +11,9 @@ mod figures;
 mod files;
 mod json;
 mod kept;
+// Used once outputs and inputs ask what a file is.
+#[allow(dead_code)]
+mod kinds;
 mod lanes;
 mod line;
 mod list;
