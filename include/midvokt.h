@@ -3,8 +3,53 @@
  * cuts one wide register into small independent ones. midvokt_store plans and also writes the
  * plan as a file, to be kept; midvokt_load reads such a file back, so that a circuit that is
  * used often is not planned each time. midvokt_optimize makes a list of pending operations,
- * those that a simulator has queued and not yet planned, shorter. Link libmidvokt.a. C99 and
- * C++11.
+ * those that a simulator has queued and not yet planned, shorter. C99 and C++11. To link:
+ *
+ *     cc -I include program.c target/staticlib/libmidvokt.a -lm
+ *
+ * The library itself needs memcpy, memmove and memset alone; -lm is for the sine and the cosine
+ * of a program's angles.
+ *
+ *
+ * A first program
+ *
+ * It plans a rotation about X0 X2 by 0, whose cosine is 1:
+ *
+ *     #include <stdio.h>
+ *     #include "midvokt.h"
+ *
+ *     #define LENT(words) words, sizeof(words) / sizeof(words)[0]
+ *
+ *     static const uint64_t record[MIDVOKT_RECORD_WORDS] = {
+ *         MIDVOKT_KIND_ROTATION, 3, 5, 0, 0, 0, 0, UINT64_C(0x3ff0000000000000)};
+ *     static uint64_t steps[MIDVOKT_STEPS_WORDS(1)], merges[MIDVOKT_MERGES_WORDS(1)];
+ *     static uint64_t sizes[MIDVOKT_SIZES_WORDS(1)], rotations[MIDVOKT_ROTATIONS_WORDS(1)];
+ *     static uint64_t promotions[MIDVOKT_PROMOTIONS_WORDS(1)];
+ *     static uint64_t measurements[MIDVOKT_MEASUREMENTS_WORDS(1)];
+ *     static uint64_t groups[MIDVOKT_GROUPS_WORDS(1)], result[MIDVOKT_RESULT_WORDS];
+ *
+ *     int main(void)
+ *     {
+ *         uint64_t number = midvokt_plan(
+ *             3, MIDVOKT_LEAST_MAX_K, 0, MIDVOKT_LARGEST_CEILING, LENT(record), LENT(steps),
+ *             LENT(merges), LENT(sizes), LENT(rotations), LENT(promotions), LENT(measurements),
+ *             LENT(groups), LENT(result));
+ *         printf("number %d, component %d has members", (int)number,
+ *                (int)rotations[MIDVOKT_ROW_COMPONENT]);
+ *         printf(" %d and %d\n", (int)groups[1], (int)groups[2]);
+ *         return 0;
+ *     }
+ *
+ * It prints:
+ *
+ *     number 0, component 0 has members 0 and 2
+ *
+ * The second argument is max_k, the greatest number of active coordinates. Below
+ * MIDVOKT_LEAST_MAX_K, which is 8, nothing is planned: there is a plan then, and it has no rows.
+ * So give 8 for fewer coordinates too (see midvokt_plan).
+ *
+ *
+ * What is proved and what is trusted
  *
  * The library is proved, for every input, to give the plan, the file, what the file holds or
  * the optimized list, or the first refusal of its definition, and to write every word and byte
@@ -88,6 +133,9 @@ extern "C" {
 /* The largest ceiling, that of a controller that holds registers of up to 61 coordinates. With
  * it everything is planned that can be. */
 #define MIDVOKT_LARGEST_CEILING 62
+
+/* The least max_k with which records are read. */
+#define MIDVOKT_LEAST_MAX_K 8
 
 /* ---- Records: eight words each ------------------------------------------------------ */
 
@@ -439,7 +487,9 @@ enum midvokt_optimize_result_word {
     MIDVOKT_OPTIMIZE_RESULT_OUTPUT = 2,    /* operations that are left */
     MIDVOKT_OPTIMIZE_RESULT_FUSED = 3,     /* pairs of rotations that became one, or none */
     MIDVOKT_OPTIMIZE_RESULT_CANCELLED = 4, /* of these, the pairs that became none */
-    MIDVOKT_OPTIMIZE_RESULT_SWAPS = 5      /* rotations that measurements moved in front of */
+    MIDVOKT_OPTIMIZE_RESULT_SWAPS = 5      /* pairs of a measurement and a rotation that it moved
+                                              in front of: a rotation counts once for each
+                                              measurement that passed it */
 };
 #define MIDVOKT_OPTIMIZE_RESULT_WORDS 6
 
@@ -511,8 +561,9 @@ enum midvokt_number {
  *   max_k       the width of the one wide register that the split is compared with: the dense
  *               peak is 2 to the power of max_k, and the components may allocate 1.25 times
  *               as much to be selected. Give the greatest number of active coordinates; it is
- *               not held to the records. Below 8 nothing is planned (see below): give 8 to
- *               have the rows of a small circuit. The ceiling or more is refused
+ *               not held to the records. Below MIDVOKT_LEAST_MAX_K nothing is planned (see
+ *               below): give that to have the rows of a small circuit. The ceiling or more is
+ *               refused
  *   nexpvals    the number of expectation values that the program has; a program that has any
  *               is not split
  *   ceiling     what the controller holds: registers of fewer coordinates than this, 1 to
@@ -630,6 +681,8 @@ uint64_t midvokt_load(const uint8_t *file, size_t file_len,
  *   moving      Then each measurement, from the first on, moves in front of rotations that stand
  *               right before it and commute with it: of all of them where something was fused in
  *               this segment, and else up to the nearest about its own string, if there is one.
+ *               Each rotation that it passes is a swap: where two measurements pass one rotation
+ *               there are two.
  *
  * So operations that are left keep their order, but for a measurement and a rotation that
  * commute; nothing goes across a preserved prefix; and between two that were fused stood only

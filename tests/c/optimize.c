@@ -2,8 +2,9 @@
  * Optimizes lists of pending operations through the C interface. A list in which rotations are
  * fused and cancelled and measurements move is printed by the header's names, before and after,
  * without and with preserved prefixes; then a list with an expectation value, shorter and longer
- * results, outputs of just the needed length and longer ones, and each refusal, with one for each
- * part of the form. `check` compares what is printed with optimize.expected. C99 and C++11.
+ * results, outputs of just the needed length and longer ones, each refusal, with one for each part
+ * of the form, and two measurements that pass one rotation. `check` compares what is printed with
+ * optimize.expected. C99 and C++11.
  */
 #include <inttypes.h>
 #include <stdio.h>
@@ -365,5 +366,10 @@ int main(void)
     refuse_lengths();
     used = 0;
     show("no operations", 0);
+    turn(0.5, 1, 0, 0);
+    turn(0.25, 1, 0, 0);
+    measure(0, 2, 0, 1);
+    measure(0, 4, 0, 2);
+    show("two measurements pass one rotation", 0);
     return is_right ? 0 : 1;
 }
