@@ -8,7 +8,8 @@
  *     cc -I include program.c target/staticlib/libmidvokt.a -lm
  *
  * The library itself needs memcpy, memmove and memset alone; -lm is for the sine and the cosine
- * of a program's angles.
+ * of a program's angles. midvokt_buffers.h, beside this header, has the buffers as one struct,
+ * makes records of Paulis such as "Y0*Z1", and says a refusal in words.
  *
  *
  * A first program
