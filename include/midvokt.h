@@ -135,7 +135,7 @@ extern "C" {
  * it everything is planned that can be. */
 #define MIDVOKT_LARGEST_CEILING 62
 
-/* The least max_k with which records are read. */
+/* The least max_k with which records are read: below it nothing is planned. */
 #define MIDVOKT_LEAST_MAX_K 8
 
 /* ---- Records: eight words each ------------------------------------------------------ */

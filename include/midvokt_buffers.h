@@ -1,8 +1,7 @@
 /*
- * Buffers, records from Paulis, and refusals in words, over the calls of midvokt.h. There is
- * nothing to link but what midvokt.h names: all functions here are static inline. They call
- * sin and cos, so -lm is needed; calloc and free are called where buffers are asked for at run
- * time. A header may be included in as many files of a program as one likes. C99 and C++11.
+ * Buffers, records from Paulis, and refusals in words, over the calls of midvokt.h. All functions
+ * here are static inline, so that nothing more is linked than midvokt.h names, -lm with it, and
+ * that several files of a program may include this. C99 and C++11.
  *
  * A first program:
  *
@@ -26,9 +25,18 @@
  *
  *     nothing is refused; the split pays: 0
  *
- * Each function here takes every argument, null pointers too, and says what it does with them.
- * What is trusted to the caller is that a pointer that is not null has behind it what is said,
- * that a text ends with a zero byte, and what midvokt.h says of overlaps and of the stack.
+ * What a program uses of this:
+ *
+ *   buffers   MIDVOKT_STATIC_BUFFERS; midvokt_buffers_alloc and midvokt_buffers_free
+ *   calls     midvokt_head_of; midvokt_plan_records, midvokt_store_records, midvokt_load_file
+ *   records   midvokt_rotation, midvokt_measurement, midvokt_expectation, midvokt_record_alone;
+ *             midvokt_read_pauli
+ *   words     midvokt_double_of, midvokt_word_of; midvokt_sentence
+ *
+ * These functions take every argument, null pointers too, and say what they do then. Trusted to
+ * the caller is that a pointer that is not null has behind it what is said, that a text ends with
+ * a zero byte, and what midvokt.h says of overlaps and of the stack. The other functions here are
+ * parts of these.
  */
 #ifndef MIDVOKT_BUFFERS_H
 #define MIDVOKT_BUFFERS_H
@@ -424,9 +432,9 @@ static inline int midvokt_read_pauli(midvokt_pauli *pauli, uint64_t width, const
 
 /* ---- Records -------------------------------------------------------------------------- */
 
-/* The kind of a record that could not be made, with 0 in all other words. Planning refuses it
- * with MIDVOKT_REFUSED_KIND, so that a program that does not look at what a builder returns gets
- * no plan of another circuit. */
+/* The kind of a record that could not be made, with 0 in all other words. Planning that reads the
+ * records refuses it with MIDVOKT_REFUSED_KIND, so that a program that does not look at what a
+ * builder returns gets no plan of another circuit. */
 #define MIDVOKT_NO_KIND UINT64_MAX
 
 /* Writes a record's kind, and 0 into all other words. */
