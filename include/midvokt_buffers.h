@@ -125,7 +125,7 @@ typedef struct midvokt_buffers {
 /* Gets buffers that are enough for n records, one block of zeros, from calloc. What the struct
  * held before is not looked at. Returns MIDVOKT_MADE; or MIDVOKT_NOT_MADE where there is not so
  * much memory, or no size_t counts its bytes, or the struct is null. Then the lengths are 0, and
- * a call that is made all the same is refused: planning with MIDVOKT_REFUSED_BUFFERS. */
+ * planning that reads records is refused with MIDVOKT_REFUSED_BUFFERS. */
 static inline int midvokt_buffers_alloc(midvokt_buffers *buffers, size_t n)
 {
     const size_t fixed = MIDVOKT_BUFFERS_WORDS(0);
@@ -187,8 +187,8 @@ static inline const void *midvokt_given(const void *data)
     return data == NULL ? nothing : data;
 }
 
-/* How many words so many records have. Where they are more than MIDVOKT_MOST_RECORDS, or are at
- * null and not none, it is a number that planning refuses with MIDVOKT_REFUSED_RECORD_WORDS. */
+/* How many words so many records have. Where they are more than MIDVOKT_MOST_RECORDS, or more
+ * than 0 and at null, it is a number that is refused with MIDVOKT_REFUSED_RECORD_WORDS. */
 static inline size_t midvokt_words_of(const uint64_t *records, size_t count)
 {
     if (records == NULL)
@@ -221,9 +221,9 @@ static inline uint64_t midvokt_plan_records(midvokt_head head, const uint64_t *r
                         MIDVOKT_ANY_RESULT_WORDS);
 }
 
-/* midvokt_store of the same, into so many bytes for the file: returns its number. `length`, which
- * may be null, gets the file's length in bytes, and 0 after a refusal. A file at null has no
- * bytes. */
+/* midvokt_store of the same, into so many bytes for the file: returns its number. The outputs are
+ * those of the plan. `length`, which may be null, gets the file's length in bytes, and 0 after a
+ * refusal. A file at null has no bytes. */
 static inline uint64_t midvokt_store_records(midvokt_head head, const uint64_t *records,
                                              size_t count, midvokt_buffers *buffers,
                                              uint8_t *file, size_t file_len, size_t *length)
@@ -466,7 +466,8 @@ static inline int midvokt_write_pauli(uint64_t *record, uint64_t kind, uint64_t 
  * written. `width` is the number of active coordinates. Nothing else is judged: not whether the
  * Pauli is Hermitian, nor the angle or the pivot; the call judges these. */
 
-/* The rotation exp(-i angle P), with the sine and the cosine of the angle. */
+/* The rotation exp(-i angle P), with the sine and the cosine of the angle. A gate that turns by
+ * theta has the angle theta/2. */
 static inline int midvokt_rotation(uint64_t *record, uint64_t width, const char *pauli,
                                    double angle)
 {
