@@ -369,11 +369,13 @@ pub fn senseless(name: &str, what: &str, scalars: Option<&Scalars>) -> String {
 /// A refusal.
 pub fn refusal(name: &str, circuit: &Circuit, refusal: &Refusal) -> String {
     let placed = refused_record(circuit, refusal);
+    let line = placed.map(|placed| placed.line);
+    let line = line.or_else(|| text::head_line(circuit, refusal));
     let about = object(&vec![
         ("number", refusal.number().to_string()),
         ("reason", string(&text::reason(circuit, refusal))),
         ("record", optional(placed.map(|_| refusal.index))),
-        ("line", optional(placed.map(|placed| placed.line))),
+        ("line", optional(line)),
     ]);
     tall_object(&opening(name, circuit, about)) + "\n"
 }
@@ -381,6 +383,32 @@ pub fn refusal(name: &str, circuit: &Circuit, refusal: &Refusal) -> String {
 #[cfg(test)]
 mod tests_of_json {
     use super::*;
+    use crate::circuit;
+
+    #[test]
+    fn a_refused_head_has_its_line() {
+        let records = "record\n".repeat(1025);
+        let many = format!("initial 1\nmax 8\n{records}");
+        for (text, number, line) in [
+            ("\nmax 62\ninitial 1", 1, "2"),
+            ("ceiling 9\n\nmax 8\ninitial 513", 4, "4"),
+            ("max 8\n\nceiling 0\ninitial 1", 24, "3"),
+            ("max 8\ninitial 1\nrecord\nrotate X 1e999", 8, "4"),
+            (&many, 2, "null"),
+        ] {
+            let circuit = circuit::parse(text.as_bytes()).unwrap();
+            let refused = View::of("-", &circuit).err().unwrap();
+            let found = refusal("-", &circuit, &refused);
+            assert!(
+                found.contains(&format!("{{\"number\": {number}, ")),
+                "{found}"
+            );
+            assert!(
+                found.contains(&format!(", \"line\": {line}}}\n")),
+                "{found}"
+            );
+        }
+    }
 
     #[test]
     fn strings_are_escaped() {

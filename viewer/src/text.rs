@@ -345,14 +345,15 @@ pub fn plan(view: &View<'_>, style: &Style) -> String {
     parts.join("\n")
 }
 
-/// The line of the head that a refusal is about, if it is about one.
-fn head_line(circuit: &Circuit, refusal: &Refusal) -> Option<usize> {
-    match refusal.reason {
-        Reason::MaxK => Some(circuit.head_lines[1]),
-        Reason::InitialK => Some(circuit.head_lines[0]),
-        Reason::Ceiling => Some(circuit.head_lines[3]),
-        _ => None,
-    }
+/// The line of the head that a refusal is about, if it is about one that the file gives.
+pub fn head_line(circuit: &Circuit, refusal: &Refusal) -> Option<usize> {
+    let line = match refusal.reason {
+        Reason::MaxK => circuit.head_lines[1],
+        Reason::InitialK => circuit.head_lines[0],
+        Reason::Ceiling => circuit.head_lines[3],
+        _ => 0,
+    };
+    (line != 0).then_some(line)
 }
 
 /// Which ceiling a circuit has, and that it is the largest one where the file gives none.
