@@ -338,11 +338,17 @@ fn product(string: &PauliString) -> String {
     pauli::product(pauli::Pauli { x, z, phase })
 }
 
-/// An operation as a line of a file.
-pub fn text(operation: &PendingOperation) -> String {
+/// The Pauli of an operation as masks in hexadecimal, with the exponent of i.
+fn masks(string: &PauliString) -> String {
+    let (x, z) = (string.x[0], string.z[0]);
+    format!("x={x:#x} z={z:#x} phase={}", string.phase_exponent())
+}
+
+/// An operation as a line of a file, its Pauli written in this way.
+fn written(operation: &PendingOperation, pauli: fn(&PauliString) -> String) -> String {
     match operation {
         PendingOperation::PauliRotation(rotation) => {
-            let string = product(&rotation.pauli.pauli);
+            let string = pauli(&rotation.pauli.pauli);
             let angle = angle::text(rotation.kernel_angle);
             let sign = condition(&rotation.pauli.sign);
             format!("rotate {string} {angle}{sign}")
@@ -354,7 +360,7 @@ pub fn text(operation: &PendingOperation) -> String {
             };
             format!(
                 "{word} {}{}{}{}{}",
-                product(&measurement.pauli.pauli),
+                pauli(&measurement.pauli.pauli),
                 option("value ", measurement.exp_val),
                 option("record ", measurement.record),
                 option("as s", measurement.record_condition),
@@ -368,6 +374,16 @@ pub fn text(operation: &PendingOperation) -> String {
             option("as s", record.record_condition)
         ),
     }
+}
+
+/// An operation as a line of a file, its Pauli as a product.
+pub fn text(operation: &PendingOperation) -> String {
+    written(operation, product)
+}
+
+/// An operation as a line of a file, its Pauli as masks, so that it is short at every width.
+pub fn masked(operation: &PendingOperation) -> String {
+    written(operation, masks)
 }
 
 #[cfg(test)]
@@ -444,6 +460,30 @@ mod tests {
         ] {
             let list = good(&format!("width 3\n{line}"));
             assert_eq!(text(&list.operations[0].operation), line);
+        }
+    }
+
+    #[test]
+    fn operations_with_masks_are_written_as_they_are_read() {
+        for (line, wanted) in [
+            (
+                "rotate -Y0*Z2 pi/8 if s1",
+                "rotate x=0x1 z=0x5 phase=3 pi/8 if s1",
+            ),
+            (
+                "measure phase=1 record 3",
+                "measure x=0x0 z=0x0 phase=1 record 3",
+            ),
+            (
+                "expect XXX value 0 as s2 if not s9",
+                "expect x=0x7 z=0x0 phase=0 value 0 as s2 if not s9",
+            ),
+            ("record not s1^s4 to 5", "record not s1^s4 to 5"),
+        ] {
+            let read = |line: &str| good(&format!("width 3\n{line}")).operations[0].clone();
+            let found = masked(&read(line).operation);
+            assert_eq!(found, wanted);
+            assert_eq!(read(&found).operation, read(line).operation);
         }
     }
 

@@ -1,22 +1,20 @@
 //! An optimized list as text for a person: what was done in all, the list before with what becomes of
 //! each operation, and the list after; and a refusal in words.
 
-use midvokt::{PendingOptimizationStats, Refusal};
+use midvokt::{PendingOperation, PendingOptimizationStats, Refusal};
 
 use crate::figures;
 use crate::lanes::Style;
 use crate::line::visible;
-use crate::list::{self, List};
+use crate::list::{self, List, Queued};
 use crate::optimizing::{self, Optimization};
 use crate::places::Replay;
 use crate::text::told_notes;
 
-/// The most characters of an operation's own line that the list before shows.
-const MOST_OF_LINE: usize = 40;
+/// The most characters of an operation that the list before shows beside what becomes of it.
+const MOST_BESIDE: usize = 40;
 /// The most characters of a refused line that are shown.
 const MOST_REPEATED: usize = 80;
-/// Columns in front of an operation in the list after.
-const INDENT: usize = 14;
 
 /// The list's name and size.
 fn heading(name: &str, list: &List, columns: usize) -> String {
@@ -44,20 +42,18 @@ fn fused(stats: &PendingOptimizationStats) -> String {
     format!("{pairs} of rotations about one Pauli; {cancelled}")
 }
 
-/// What measurements moved in front of, and how many did where that is known.
+/// How many measurements moved where that is known, and how often one passed a rotation.
 fn moved(stats: &PendingOptimizationStats, replay: Option<&Replay>) -> String {
     if stats.measurement_left_swaps == 0 {
         return "no measurement".to_owned();
     }
     let count = |number: usize, one, more| figures::count(number as u64, one, more);
-    let swaps = count(stats.measurement_left_swaps, "rotation", "rotations");
-    match replay.map(|replay| replay.moves.len()) {
-        Some(moved) => {
-            let moved = count(moved, "measurement", "measurements");
-            format!("{moved}, in front of {swaps} in all")
-        }
-        None => format!("measurements, in front of {swaps} in all"),
-    }
+    let times = count(stats.measurement_left_swaps, "time", "times");
+    let moved = match replay.map(|replay| replay.moves.len()) {
+        Some(moved) => count(moved, "measurement", "measurements"),
+        None => "measurements".to_owned(),
+    };
+    format!("{moved}; {times} one passes a rotation")
 }
 
 /// Whether something changed, and how much.
@@ -123,13 +119,49 @@ fn boundaries(list: &List) -> Vec<(usize, usize)> {
     found
 }
 
+/// How many characters a text has.
+fn length(text: &str) -> usize {
+    text.chars().count()
+}
+
+/// An operation in words that are read as that operation again: in its own, where they fit on one
+/// line of so many characters, or are no more than with masks and each has room; else with masks.
+fn fitted(own: &str, operation: &PendingOperation, room: usize) -> String {
+    let masked = list::masked(operation);
+    let has_room = own.split(' ').all(|word| length(word) <= room);
+    let is_short = length(own) <= length(&masked) && has_room;
+    match length(own) <= room || is_short {
+        true => own.to_owned(),
+        false => masked,
+    }
+}
+
+/// A row of the list before: what stands in front of the operation, the operation, and what becomes
+/// of it; that stands below where the operation is longer than its column.
+fn row(first: &str, queued: &Queued, widest: usize, told: &str, columns: usize) -> String {
+    let own = &queued.text;
+    if length(own) <= widest {
+        let line = figures::wrapped(&format!("{first}{own:<widest$}  "), told, columns);
+        return format!("{}\n", line.trim_end());
+    }
+    let indent = length(first);
+    let words = fitted(own, &queued.operation, columns.saturating_sub(indent));
+    let below = match told {
+        "" => String::new(),
+        _ => {
+            let first = format!("{:1$}", "", indent + widest + 2);
+            figures::wrapped(&first, told, columns)
+        }
+    };
+    figures::wrapped(first, &words, columns) + &below
+}
+
 /// The list as it is given, with what becomes of each operation.
 fn before(view: &Optimization<'_>, columns: usize) -> String {
-    let most = MOST_OF_LINE.min(columns * 2 / 5);
-    let queued = view.list.operations.iter();
-    let shown: Vec<_> = queued.map(|q| figures::cut(&q.text, most)).collect();
-    let widest = shown.iter().map(|text| text.chars().count());
-    let widest = widest.fold("operation".len(), usize::max);
+    let most = MOST_BESIDE.min(columns * 2 / 5);
+    let lengths = view.list.operations.iter().map(|q| length(&q.text));
+    let beside = lengths.filter(|&length| length <= most);
+    let widest = beside.fold("operation".len(), usize::max);
     let told = match view.replay {
         Some(_) => "what becomes of it",
         None => "",
@@ -146,22 +178,14 @@ fn before(view: &Optimization<'_>, columns: usize) -> String {
             *text += &figures::wrapped(&first, &words, columns);
         }
     };
-    for (place, (queued, shown)) in view.list.operations.iter().zip(&shown).enumerate() {
+    for (place, queued) in view.list.operations.iter().enumerate() {
         add_kept(&mut text, place);
-        let words = view.replay.as_ref().map(|replay| outcome(replay, place));
-        let first = format!("  {place:>4}  {:>4}  {shown:<widest$}  ", queued.line);
-        let line = figures::wrapped(&first, &words.unwrap_or_default(), columns);
-        text += &format!("{}\n", line.trim_end());
+        let told = view.replay.as_ref().map(|replay| outcome(replay, place));
+        let first = format!("  {place:>4}  {:>4}  ", queued.line);
+        text += &row(&first, queued, widest, &told.unwrap_or_default(), columns);
     }
-    add_kept(&mut text, shown.len());
+    add_kept(&mut text, view.list.operations.len());
     text
-}
-
-/// An operation's words, none longer than there is room for.
-fn fitted(text: &str, columns: usize) -> String {
-    let room = columns - INDENT;
-    let words = text.split(' ').map(|word| figures::cut(word, room));
-    words.collect::<Vec<_>>().join(" ")
 }
 
 /// An operation that is left: as its line has it, or written anew where others were fused into it.
@@ -193,23 +217,40 @@ fn after(view: &Optimization<'_>, columns: usize) -> String {
         let place = view.replay.as_ref().map(|replay| replay.order[number]);
         let from = place.map_or(String::new(), |place| place.to_string());
         let first = format!("  {number:>4}  {from:>4}  ");
-        let words = fitted(&left(view, number), columns) + &together(view, place);
-        text += &figures::wrapped(&first, &words, columns);
+        let room = columns.saturating_sub(length(&first));
+        let operation = &view.optimized.operations[number];
+        let words = fitted(&left(view, number), operation, room);
+        text += &commented(&first, &words, together(view, place), columns);
     }
     text
 }
 
-/// The places that became one at a place, if others were fused into it.
-fn together(view: &Optimization<'_>, place: Option<usize>) -> String {
-    let (Some(replay), Some(place)) = (&view.replay, place) else {
-        return String::new();
+/// An operation behind a first part, with a comment in its line where both fit there, and else with
+/// the comment below.
+fn commented(first: &str, words: &str, comment: Option<String>, columns: usize) -> String {
+    let alone = figures::wrapped(first, words, columns);
+    let Some(comment) = comment else {
+        return alone;
     };
-    let mut places = replay.fused_into(place);
+    let both = format!("{first}{words} # {comment}\n");
+    if length(both.trim_end()) <= columns {
+        return both;
+    }
+    let first = format!("{:1$}# ", "", length(first));
+    let comment = figures::wrapped("", &comment, columns.saturating_sub(length(&first)));
+    let lines = comment.lines().map(|line| format!("{first}{line}\n"));
+    alone + &lines.collect::<String>()
+}
+
+/// The places that became one at a place, if others were fused into it.
+fn together(view: &Optimization<'_>, place: Option<usize>) -> Option<String> {
+    let place = place?;
+    let mut places = view.replay.as_ref()?.fused_into(place);
     if places.is_empty() {
-        return String::new();
+        return None;
     }
     places.push(place);
-    format!(" # {} in one", figures::list(&places))
+    Some(format!("{} in one", figures::list(&places)))
 }
 
 /// The whole view of an optimized list.
@@ -260,6 +301,7 @@ pub fn refusal(name: &str, list: &List, refusal: &Refusal, style: &Style) -> Str
 #[cfg(test)]
 mod tests {
     use super::*;
+    use crate::options;
 
     const STYLE: Style = Style {
         columns: 80,
@@ -285,7 +327,7 @@ mod tests {
         let wanted = "\
 OPTIMIZED: 8 operations before, 5 after
   fused    2 pairs of rotations about one Pauli; 1 cancels
-  moved    1 measurement, in front of 1 rotation in all
+  moved    1 measurement; 1 time one passes a rotation
 
 Before
    no.  line  operation          what becomes of it
@@ -332,6 +374,62 @@ After
                 "{found}"
             );
         }
+    }
+
+    /// The operation on a line behind a width of 64.
+    fn operation(line: &str) -> PendingOperation {
+        let list = list::parse(format!("width 64\n{line}").as_bytes()).unwrap();
+        list.operations[0].operation.clone()
+    }
+
+    #[test]
+    fn an_operation_that_is_too_long_is_written_with_masks() {
+        let wide = format!("rotate {} 0.1", "X".repeat(64));
+        let said = |own: &str, room| fitted(own, &operation(own), room);
+        assert_eq!(said(&wide, 75), wide);
+        let masked = "rotate x=0xffffffffffffffff z=0x0 phase=0 0.1";
+        assert_eq!(said(&wide, 74), masked);
+        assert_eq!(said(&wide, 26), masked);
+        // No more than with masks, and no word without room.
+        assert_eq!(said("measure Z0*Z1 as s7", 18), "measure Z0*Z1 as s7");
+        let product = "rotate X1*X2*X3*X4*X5*X6 1";
+        assert_eq!(said(product, 17), product);
+        assert_eq!(said(product, 16), "rotate x=0x7e z=0x0 phase=0 1");
+    }
+
+    #[test]
+    fn a_comment_that_makes_a_line_too_long_stands_below() {
+        let said = |columns| {
+            let comment = Some("0 1 2 in one".to_owned());
+            commented("  0  ", "rotate X0 1", comment, columns)
+        };
+        assert_eq!(said(31), "  0  rotate X0 1 # 0 1 2 in one\n");
+        assert_eq!(said(30), "  0  rotate X0 1\n     # 0 1 2 in one\n");
+        assert_eq!(said(18), "  0  rotate X0 1\n     # 0 1 2 in\n     # one\n");
+    }
+
+    /// From so many columns on every operation that is left stands on one line.
+    const ENOUGH: usize = 223;
+
+    #[test]
+    fn the_longest_operations_need_so_many_columns() {
+        let symbols: Vec<_> = (0..8).map(|back| format!("s{}", i32::MAX - back)).collect();
+        let masks = format!("x={0:#x} z={0:#x} phase=3", u64::MAX);
+        let (number, sign) = (i32::MAX, format!("not {}", symbols.join("^")));
+        let tail = format!("record {number} as s{number} if {sign}");
+        let least = -f64::MIN_POSITIVE / 3.0;
+        let lines = [
+            format!("expect {masks} value {number} {tail}"),
+            format!("measure {masks} {tail}"),
+            format!("rotate {masks} {least:?} if {sign}"),
+            format!("record {sign} to {number} as s{number}"),
+        ];
+        let list = list::parse(format!("width 64\n{}", lines.join("\n")).as_bytes()).unwrap();
+        let view = Optimization::of("-", &list).unwrap();
+        let rows = |columns| after(&view, columns).lines().count();
+        assert_eq!(rows(ENOUGH), 2 + lines.len());
+        assert_eq!(rows(ENOUGH - 1), 3 + lines.len());
+        assert!(options::HELP.contains(&format!("{ENOUGH} columns")));
     }
 
     #[test]
