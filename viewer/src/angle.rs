@@ -57,21 +57,27 @@ pub fn parse(word: Word<'_>) -> Result<f64, Fault> {
     }
 }
 
+/// A number with all digits that it needs to be read as the same, bit for bit.
+pub fn written(number: f64) -> String {
+    let text = format!("{number:?}");
+    text.strip_suffix(".0").unwrap_or(&text).to_owned()
+}
+
 /// The divisors of pi that are tried where an angle is written.
 const DIVISORS: [u32; 10] = [1, 2, 3, 4, 5, 6, 8, 12, 16, 32];
 /// The largest factor of pi that is written.
 const MOST_FACTOR: f64 = 64.0;
 
-/// A part of pi that is read as this very angle, if there is one that is short.
-fn part_of_pi(angle: f64) -> Option<String> {
+/// A part of pi that is this very angle, if there is one that is short; half a turn is so much.
+fn part_of_pi(number: f64, half_turn: f64) -> Option<String> {
     let part = |&divisor: &u32| {
-        let factor = (angle.abs() * f64::from(divisor) / PI).round();
+        let factor = (number.abs() * f64::from(divisor) / half_turn).round();
         let is_part = (1.0..=MOST_FACTOR).contains(&factor)
-            && factor * PI / f64::from(divisor) == angle.abs();
+            && factor * half_turn / f64::from(divisor) == number.abs();
         is_part.then_some((factor, divisor))
     };
     let (factor, divisor) = DIVISORS.iter().find_map(part)?;
-    let sign = if angle < 0.0 { "-" } else { "" };
+    let sign = if number < 0.0 { "-" } else { "" };
     let factor = if factor == 1.0 {
         String::new()
     } else {
@@ -87,11 +93,12 @@ fn part_of_pi(angle: f64) -> Option<String> {
 
 /// An angle as a file has it: read again it is the same, bit for bit.
 pub fn text(angle: f64) -> String {
-    let written = || {
-        let text = format!("{angle:?}");
-        text.strip_suffix(".0").unwrap_or(&text).to_owned()
-    };
-    part_of_pi(angle).unwrap_or_else(written)
+    part_of_pi(angle, PI).unwrap_or_else(|| written(angle))
+}
+
+/// So many degrees as an angle in radians, as a file has it.
+pub fn of_degrees(degrees: f64) -> String {
+    part_of_pi(degrees, 180.0).unwrap_or_else(|| written(degrees.to_radians()))
 }
 
 #[cfg(test)]
@@ -130,6 +137,27 @@ mod tests {
             (zero.column, zero.expected.as_str()),
             (3, "a divisor that is not 0")
         );
+    }
+
+    #[test]
+    fn degrees_are_told_in_radians() {
+        for (degrees, wanted) in [
+            (45.0, "pi/4"),
+            (-90.0, "-pi/2"),
+            (360.0, "2pi"),
+            (36.0, "pi/5"),
+            (11.25, "pi/16"),
+            (67.5, "3pi/8"),
+            (7.0, "0.12217304763960307"),
+            (1e308, "1.7453292519943295e306"),
+        ] {
+            assert_eq!(of_degrees(degrees), wanted);
+        }
+        // One float away from a part of pi is none.
+        for part in [45.0_f64, 60.0, 36.0, 15.0] {
+            let near = f64::from_bits(part.to_bits() + 1);
+            assert!(!of_degrees(near).contains("pi"), "{near}");
+        }
     }
 
     #[test]

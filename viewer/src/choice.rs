@@ -5,6 +5,8 @@ use midvokt::{ActiveComponentStepKind as Kind, Head, StoredPlan};
 
 use crate::figures;
 
+/// The least max with which records are read.
+pub const LEAST_MAX: u64 = 8;
 /// How many times as large as the components' work one wide register's has to be.
 const RATIO: f64 = 1.8;
 /// How much work has to be saved.
@@ -139,8 +141,8 @@ impl Choice {
 
     /// The tests of a plan, or why there are none.
     pub fn of(head: &Head, plan: &StoredPlan) -> Self {
-        if head.max_k < 8 {
-            return Self::Unread(format!("max {} is below 8", head.max_k));
+        if head.max_k < LEAST_MAX {
+            return Self::Unread(format!("max {} is below {LEAST_MAX}", head.max_k));
         }
         if head.nexpvals != 0 {
             return Self::Unread(format!("expvals {} is not 0", head.nexpvals));

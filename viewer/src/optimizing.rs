@@ -7,7 +7,8 @@ use midvokt::{
 };
 
 use crate::figures;
-use crate::list::{Kept, List};
+use crate::list::{Kept, List, Queued};
+use crate::notes;
 use crate::pauli::{self, Pauli};
 use crate::places::{coefficient, is_expectation, Replay};
 
@@ -165,17 +166,30 @@ fn generator(list: &List, place: usize) -> Option<Why> {
     })
 }
 
+/// That a rotation's angle is more than a turn, if it is.
+fn past_a_turn(operation: &PendingOperation) -> Option<String> {
+    match operation {
+        PendingOperation::PauliRotation(rotation) => notes::past_a_turn(rotation.kernel_angle),
+        _ => None,
+    }
+}
+
+/// The notes on the operation at a place.
+fn of_operation(place: usize, queued: &Queued) -> impl Iterator<Item = String> {
+    let operation = &queued.operation;
+    let found = [imaginary(operation), past_a_turn(operation)];
+    let first = format!("operation {place}, line {}", queued.line);
+    let found = found.into_iter().flatten();
+    found.map(move |words| format!("{first}: {words}"))
+}
+
 /// What may be meant otherwise in a list that is not refused: a Pauli that is not Hermitian, and a
 /// boundary behind the list's end, which are not judged in a measurement and beside an expectation
-/// value.
+/// value; and an angle of more than a turn.
 pub fn notes(list: &List) -> Vec<String> {
     let queued = list.operations.iter().enumerate();
-    let mut notes: Vec<_> = queued
-        .filter_map(|(place, queued)| {
-            let words = imaginary(&queued.operation)?;
-            Some(format!("operation {place}, line {}: {words}", queued.line))
-        })
-        .collect();
+    let of_operations = queued.flat_map(|(place, queued)| of_operation(place, queued));
+    let mut notes: Vec<_> = of_operations.collect();
     let beyond = list.kept.iter().filter_map(|kept| beyond(list, kept));
     notes.extend(beyond.map(|why| format!("line {}: {}", why.line.unwrap_or(0), why.words)));
     notes

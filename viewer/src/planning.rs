@@ -43,6 +43,16 @@ fn records(circuit: &Circuit) -> Vec<Record> {
     circuit.records.iter().map(|placed| placed.record).collect()
 }
 
+/// Whether a circuit is selected with this max, or why it is refused with it.
+pub fn selected_with(circuit: &Circuit, max_k: u64) -> Result<bool, Refusal> {
+    let head = Head {
+        max_k,
+        ..circuit.head
+    };
+    let plan = midvokt::plan(&head, &records(circuit))?;
+    Ok(plan.selected)
+}
+
 /// Plans a circuit, and gives the plan's file.
 pub fn stored(circuit: &Circuit) -> Result<Vec<u8>, Refusal> {
     midvokt::store(&circuit.head, &records(circuit))

@@ -8,6 +8,7 @@ use midvokt::{
     ActiveComponentStepKind as Kind, Reason, Record, Refusal, LARGEST_CEILING, MOST_RECORDS,
 };
 
+use crate::angle;
 use crate::choice::{Choice, Test};
 use crate::circuit::{Circuit, Placed};
 use crate::figures;
@@ -378,10 +379,9 @@ fn too_many(circuit: &Circuit, refusal: &Refusal) -> String {
 fn no_one_angle(circuit: &Circuit, refusal: &Refusal) -> String {
     let placed = refused_record(circuit, refusal);
     let sum = match placed.map(|placed| &placed.record) {
-        Some(Record::Rotation(r)) => format!("{:?}", r.sine * r.sine + r.cosine * r.cosine),
+        Some(Record::Rotation(r)) => angle::written(r.sine * r.sine + r.cosine * r.cosine),
         _ => "something else".to_owned(),
     };
-    let sum = sum.strip_suffix(".0").unwrap_or(&sum);
     format!("the squares of sin and cos sum to {sum}, and have to sum to 1, give or take 2^-50")
 }
 
@@ -422,7 +422,7 @@ pub fn reason(circuit: &Circuit, refusal: &Refusal) -> String {
 }
 
 /// Where a circuit is refused.
-fn place(circuit: &Circuit, refusal: &Refusal) -> String {
+pub fn place(circuit: &Circuit, refusal: &Refusal) -> String {
     match (
         refused_record(circuit, refusal),
         head_line(circuit, refusal),
