@@ -66,7 +66,7 @@ impl Pauli {
 /// The sign that is left of the phase exponent, with 1 for each Y taken off.
 fn written_sign(pauli: Pauli) -> &'static str {
     let ys = u64::from((pauli.x & pauli.z).count_ones());
-    ["", "i", "-", "-i"][((pauli.phase + 4 - ys % 4) % 4) as usize]
+    ["", "i", "-", "-i"][((pauli.phase % 4 + 4 - ys % 4) % 4) as usize]
 }
 
 /// The letter at a position.
@@ -290,5 +290,8 @@ mod tests {
             let read = read(text, width as u64).unwrap();
             assert_eq!(letters(read, width), text);
         }
+        // A circuit may have any phase; what a record may not have is refused later.
+        let far = |phase| letters(Pauli { x: 1, z: 1, phase }, 1);
+        assert_eq!([far(u64::MAX - 2), far(u64::MAX)], ["Y", "-Y"]);
     }
 }
