@@ -345,7 +345,7 @@ fn masks(string: &PauliString) -> String {
 }
 
 /// An operation as a line of a file, its Pauli written in this way.
-fn written(operation: &PendingOperation, pauli: fn(&PauliString) -> String) -> String {
+fn line_of(operation: &PendingOperation, pauli: fn(&PauliString) -> String) -> String {
     match operation {
         PendingOperation::PauliRotation(rotation) => {
             let string = pauli(&rotation.pauli.pauli);
@@ -378,12 +378,12 @@ fn written(operation: &PendingOperation, pauli: fn(&PauliString) -> String) -> S
 
 /// An operation as a line of a file, its Pauli as a product.
 pub fn text(operation: &PendingOperation) -> String {
-    written(operation, product)
+    line_of(operation, product)
 }
 
 /// An operation as a line of a file, its Pauli as masks, so that it is short at every width.
 pub fn masked(operation: &PendingOperation) -> String {
-    written(operation, masks)
+    line_of(operation, masks)
 }
 
 #[cfg(test)]

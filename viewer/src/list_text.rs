@@ -125,7 +125,8 @@ fn length(text: &str) -> usize {
 }
 
 /// An operation in words that are read as that operation again: in its own, where they fit on one
-/// line of so many characters, or are no more than with masks and each has room; else with masks.
+/// line of so many characters, or are no longer than with masks and each has room; else with
+/// masks.
 fn fitted(own: &str, operation: &PendingOperation, room: usize) -> String {
     let masked = list::masked(operation);
     let has_room = own.split(' ').all(|word| length(word) <= room);
@@ -136,8 +137,8 @@ fn fitted(own: &str, operation: &PendingOperation, room: usize) -> String {
     }
 }
 
-/// A row of the list before: what stands in front of the operation, the operation, and what becomes
-/// of it; that stands below where the operation is longer than its column.
+/// A row of the list before: what stands in front of the operation, the operation, and what
+/// becomes of it; that stands below where the operation is longer than its column.
 fn row(first: &str, queued: &Queued, widest: usize, told: &str, columns: usize) -> String {
     let own = &queued.text;
     if length(own) <= widest {
@@ -225,8 +226,8 @@ fn after(view: &Optimization<'_>, columns: usize) -> String {
     text
 }
 
-/// An operation behind a first part, with a comment in its line where both fit there, and else with
-/// the comment below.
+/// An operation behind a first part, with a comment in its line where both fit there, and else
+/// with the comment below.
 fn commented(first: &str, words: &str, comment: Option<String>, columns: usize) -> String {
     let alone = figures::wrapped(first, words, columns);
     let Some(comment) = comment else {

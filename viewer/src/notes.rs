@@ -1,6 +1,6 @@
 //! What may be meant otherwise than it is written: a max that is not the widest register, or that
-//! leaves the records unread; a Pauli that is not Hermitian, masks that reach nothing, a sine and a
-//! cosine of another angle, an angle of more than a turn. Each is said in a line; the plan stays.
+//! leaves the records unread; a Pauli that is not Hermitian, masks that reach nothing, a sine and
+//! a cosine of another angle, an angle past 2 pi. Each is said in a line; the plan stays.
 
 use std::cmp::Ordering;
 use std::f64::consts::TAU;
@@ -17,8 +17,8 @@ use crate::text;
 
 /// The most characters of a Pauli that a note shows.
 const MOST_OF_PAULI: usize = 24;
-/// How far a sine or a cosine may be from the angle's, 2^-40: an angle that was written with twelve
-/// decimals is nearer.
+/// How far a sine or a cosine may be from the angle's, 2^-40: an angle that was written with
+/// twelve decimals is nearer.
 const NEAR: f64 = 1.0 / (1_u64 << 40) as f64;
 /// How far the squares of a sine and a cosine that are of one angle may be from 1, 2^-50.
 const ROUNDED: f64 = 1.0 / (1_u64 << 50) as f64;
@@ -72,8 +72,8 @@ fn of_another_angle(rotation: &Rotation) -> Option<String> {
     })
 }
 
-/// That an angle is more than a turn, and what it is if degrees are meant; nothing of another angle.
-pub fn past_a_turn(angle: f64) -> Option<String> {
+/// That an angle is past 2 pi, and what it is if degrees are meant; nothing of another angle.
+pub fn past_two_pi(angle: f64) -> Option<String> {
     if !angle.is_finite() || angle.abs() <= TAU {
         return None;
     }
@@ -91,11 +91,11 @@ pub fn past_a_turn(angle: f64) -> Option<String> {
 
 /// The notes on a record.
 fn of_record(number: usize, placed: &Placed) -> impl Iterator<Item = String> {
-    let [of_another_angle, past_a_turn] = match &placed.record {
-        Record::Rotation(rotation) => [of_another_angle(rotation), past_a_turn(rotation.angle)],
+    let [of_another_angle, past_two_pi] = match &placed.record {
+        Record::Rotation(rotation) => [of_another_angle(rotation), past_two_pi(rotation.angle)],
         _ => [None, None],
     };
-    let found = [of_pauli(placed), of_another_angle, past_a_turn];
+    let found = [of_pauli(placed), of_another_angle, past_two_pi];
     let first = format!("record {number}, line {}", placed.line);
     let found = found.into_iter().flatten();
     found.map(move |words| format!("{first}: {words}"))
@@ -130,8 +130,8 @@ fn of_choice(circuit: &Circuit) -> Option<String> {
     ))
 }
 
-/// The note on a max with which no record is read, if that is all that keeps the circuit from being
-/// planned.
+/// The note on a max with which no record is read, if that is all that keeps the circuit from
+/// being planned.
 fn of_unread(circuit: &Circuit) -> Option<String> {
     let head = &circuit.head;
     selected_with(circuit, head.max_k).ok()?;
@@ -224,7 +224,8 @@ mod tests {
         assert!(notes("initial 3\nmax 8", "promote").is_empty());
         assert!(notes("initial 8\nmax 9", "promote").is_empty());
         let told = |max, records: &str| notes(&format!("initial 8\nmax {max}"), records);
-        let below = "max 8 is below the widest register, 9 coordinates: the choice counts with 2^8";
+        let below = "max 8 is below the widest register, 9 coordinates: the choice counts with \
+                     2^8";
         assert_eq!(
             told(8, "promote\nmeasure Z0 pivot 0"),
             [format!(
@@ -330,12 +331,12 @@ mod tests {
     }
 
     #[test]
-    fn an_angle_of_more_than_a_turn_is_told() {
-        assert_eq!(past_a_turn(TAU), None);
-        assert_eq!(past_a_turn(-TAU), None);
-        assert_eq!(past_a_turn(f64::INFINITY), None);
-        assert_eq!(past_a_turn(f64::NAN), None);
-        let said = |angle| past_a_turn(angle).unwrap();
+    fn an_angle_past_two_pi_is_told() {
+        assert_eq!(past_two_pi(TAU), None);
+        assert_eq!(past_two_pi(-TAU), None);
+        assert_eq!(past_two_pi(f64::INFINITY), None);
+        assert_eq!(past_two_pi(f64::NAN), None);
+        let said = |angle| past_two_pi(angle).unwrap();
         assert_eq!(
             said(45.0),
             "the angle 45 is past 2 pi; angles are in radians, and 45 degrees are pi/4"

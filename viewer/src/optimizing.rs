@@ -166,10 +166,10 @@ fn generator(list: &List, place: usize) -> Option<Why> {
     })
 }
 
-/// That a rotation's angle is more than a turn, if it is.
-fn past_a_turn(operation: &PendingOperation) -> Option<String> {
+/// That a rotation's angle is past 2 pi, if it is.
+fn past_two_pi(operation: &PendingOperation) -> Option<String> {
     match operation {
-        PendingOperation::PauliRotation(rotation) => notes::past_a_turn(rotation.kernel_angle),
+        PendingOperation::PauliRotation(rotation) => notes::past_two_pi(rotation.kernel_angle),
         _ => None,
     }
 }
@@ -177,7 +177,7 @@ fn past_a_turn(operation: &PendingOperation) -> Option<String> {
 /// The notes on the operation at a place.
 fn of_operation(place: usize, queued: &Queued) -> impl Iterator<Item = String> {
     let operation = &queued.operation;
-    let found = [imaginary(operation), past_a_turn(operation)];
+    let found = [imaginary(operation), past_two_pi(operation)];
     let first = format!("operation {place}, line {}", queued.line);
     let found = found.into_iter().flatten();
     found.map(move |words| format!("{first}: {words}"))
@@ -185,7 +185,7 @@ fn of_operation(place: usize, queued: &Queued) -> impl Iterator<Item = String> {
 
 /// What may be meant otherwise in a list that is not refused: a Pauli that is not Hermitian, and a
 /// boundary behind the list's end, which are not judged in a measurement and beside an expectation
-/// value; and an angle of more than a turn.
+/// value; and an angle past 2 pi.
 pub fn notes(list: &List) -> Vec<String> {
     let queued = list.operations.iter().enumerate();
     let of_operations = queued.flat_map(|(place, queued)| of_operation(place, queued));

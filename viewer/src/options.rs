@@ -51,8 +51,9 @@ yet: a line 'width N' (qubits, 1 to 64), then a line each; # is a comment.
 SIGN   s1^s3, an exclusive or of symbols; not s1^s3; 0 or 1
 Of a list it prints how much the library fused, cancelled and moved; the list
 before, with what becomes of each operation; and the list after. No operation is
-cut: one that is too long is written with masks, or wrapped. From 223 columns on
-each is on one line, as it can be given again; --json has it so at any width.
+cut: one without room on a line is written with masks, or wrapped. From
+223 columns on each of the list after has one line, as it can be given again;
+--json has it so at any width.
 
 Of a plan it prints the choice with both sides of each test; notes on what may
 be meant otherwise; works, and how many times cheaper the split is; dimensions;
