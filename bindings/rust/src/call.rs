@@ -1,11 +1,7 @@
 //! The call of the proved library over lent buffers, with nothing allocated.
 
+use crate::lent::{call_with, Buffers};
 use crate::refusal::{Reason, Refusal};
-use crate::rows::{
-    measurement_at, part, promotion_at, rotation_at, step_at, ActiveComponentMeasurementStep,
-    ActiveComponentPromotionStep, ActiveComponentRotationStep, ActiveComponentStepRef,
-    MEASUREMENT_WORDS, ROTATION_WORDS, STEP_WORDS,
-};
 use crate::words::Words;
 use crate::works::WholeWorks;
 
@@ -50,147 +46,6 @@ impl Head {
     /// not 0. Then only the ceiling and `max_k` can be refused.
     pub fn leaves_unread(&self) -> bool {
         self.max_k < 8 || self.nexpvals != 0
-    }
-}
-
-/// The lengths of the seven buffers, in words.
-#[derive(Clone, Copy, Debug, PartialEq, Eq)]
-pub struct Lengths {
-    /// Two words a record.
-    pub steps: usize,
-    /// A word for each source of each row.
-    pub merges: usize,
-    /// A word for each component.
-    pub sizes: usize,
-    /// 21 words a rotation row.
-    pub rotations: usize,
-    /// A word for each promotion row.
-    pub promotions: usize,
-    /// 19 words a measurement row.
-    pub measurements: usize,
-    /// For each live component a count and its members.
-    pub groups: usize,
-}
-
-impl Lengths {
-    /// The least lengths that are enough for so many records. A length that no usize holds is
-    /// the greatest one; so many records are refused whatever the buffers.
-    pub const fn for_records(records: usize) -> Self {
-        Self {
-            steps: records.saturating_mul(STEP_WORDS),
-            merges: records.saturating_add(512),
-            sizes: 512,
-            rotations: records.saturating_mul(ROTATION_WORDS),
-            promotions: records,
-            measurements: records.saturating_mul(MEASUREMENT_WORDS),
-            groups: 1024,
-        }
-    }
-
-    /// The seven lengths in the order of the buffers.
-    pub const fn in_order(&self) -> [usize; 7] {
-        [
-            self.steps,
-            self.merges,
-            self.sizes,
-            self.rotations,
-            self.promotions,
-            self.measurements,
-            self.groups,
-        ]
-    }
-}
-
-/// The seven buffers that the caller lends. Each call writes every word of them.
-#[derive(Debug)]
-pub struct Buffers<'a> {
-    /// Kind and payload of each record's step.
-    pub steps: &'a mut [u64],
-    /// The sources of all rows, one row's after the other's.
-    pub merges: &'a mut [u64],
-    /// The longest size of each component.
-    pub sizes: &'a mut [u64],
-    /// Rotation rows.
-    pub rotations: &'a mut [u64],
-    /// Promotion rows.
-    pub promotions: &'a mut [u64],
-    /// Measurement rows.
-    pub measurements: &'a mut [u64],
-    /// The components that live at the end, by ascending number.
-    pub groups: &'a mut [u64],
-}
-
-impl<'a> From<[&'a mut [u64]; 7]> for Buffers<'a> {
-    /// Seven slices in the order of the buffers.
-    fn from(words: [&'a mut [u64]; 7]) -> Self {
-        let [steps, merges, sizes, rotations, promotions, measurements, groups] = words;
-        Self {
-            steps,
-            merges,
-            sizes,
-            rotations,
-            promotions,
-            measurements,
-            groups,
-        }
-    }
-}
-
-impl Buffers<'_> {
-    /// The step of a record; none past the end, and none where the words are no step's. Zeros
-    /// are the step of nothing.
-    pub fn step(&self, record: usize) -> Option<ActiveComponentStepRef> {
-        step_at(self.steps, record)
-    }
-
-    /// A rotation row; none past the end. Go by the steps: behind the last row all is zero.
-    pub fn rotation(&self, number: usize) -> Option<ActiveComponentRotationStep> {
-        rotation_at(self.rotations, number)
-    }
-
-    /// A promotion row; none past the end. Go by the steps: behind the last row all is zero.
-    pub fn promotion(&self, number: usize) -> Option<ActiveComponentPromotionStep> {
-        promotion_at(self.promotions, number)
-    }
-
-    /// A measurement row; none past the end. Go by the steps: behind the last row all is zero.
-    pub fn measurement(&self, number: usize) -> Option<ActiveComponentMeasurementStep> {
-        measurement_at(self.measurements, number)
-    }
-
-    /// The part of the merge list that a row names; empty if it runs past the end.
-    /// Of a row that planning wrote: its component, then all others that the record touches, each
-    /// once, by strictly ascending number, and nothing else.
-    pub fn sources(&self, merge_offset: usize, merge_count: usize) -> &[u64] {
-        part(self.merges, merge_offset, merge_count).unwrap_or(&[])
-    }
-
-    /// The members, which are coordinates, of each component that lives at the end, by ascending
-    /// component number, each once: the first is the live component with the smallest number, and
-    /// so on.
-    pub fn groups(&self) -> Groups<'_> {
-        Groups { left: self.groups }
-    }
-}
-
-/// The groups of a plan, one after the other, by ascending component number.
-#[derive(Clone, Debug)]
-pub struct Groups<'a> {
-    left: &'a [u64],
-}
-
-impl<'a> Iterator for Groups<'a> {
-    type Item = &'a [u64];
-
-    /// A count of 0, or the end of the buffer, ends the groups.
-    fn next(&mut self) -> Option<&'a [u64]> {
-        let (&count, rest) = self.left.split_first()?;
-        if count == 0 || count > rest.len() as u64 {
-            return None;
-        }
-        let (members, left) = rest.split_at(count as usize);
-        self.left = left;
-        Some(members)
     }
 }
 
@@ -277,29 +132,12 @@ pub fn plan_words(
     // SAFETY: slices are aligned and never null, exclusive ones overlap nothing, and the
     // library reads and writes only below the lengths given with them.
     unsafe {
-        midvokt_plan(
-            head.initial_k,
-            head.max_k,
-            head.nexpvals,
-            head.ceiling,
-            records.as_ptr(),
-            records.len(),
-            buffers.steps.as_mut_ptr(),
-            buffers.steps.len(),
-            buffers.merges.as_mut_ptr(),
-            buffers.merges.len(),
-            buffers.sizes.as_mut_ptr(),
-            buffers.sizes.len(),
-            buffers.rotations.as_mut_ptr(),
-            buffers.rotations.len(),
-            buffers.promotions.as_mut_ptr(),
-            buffers.promotions.len(),
-            buffers.measurements.as_mut_ptr(),
-            buffers.measurements.len(),
-            buffers.groups.as_mut_ptr(),
-            buffers.groups.len(),
-            result.as_mut_ptr(),
-            result.len(),
+        call_with!(
+            midvokt_plan,
+            [head.initial_k, head.max_k, head.nexpvals, head.ceiling],
+            records,
+            buffers.sections,
+            [buffers.groups, result]
         )
     }
 }
@@ -322,31 +160,12 @@ pub fn plan_into(
 
 #[cfg(test)]
 mod tests {
-    use super::{Head, Lengths, LARGEST_CEILING};
+    use super::{Head, LARGEST_CEILING};
 
     #[test]
     fn a_default_head_has_the_largest_ceiling() {
         let head = Head::default();
         assert_eq!((head.initial_k, head.max_k, head.nexpvals), (0, 0, 0));
         assert_eq!((head.ceiling, LARGEST_CEILING), (62, 62));
-    }
-
-    #[test]
-    fn lengths_grow_with_the_records() {
-        let most = Lengths::for_records(1024).in_order();
-        assert_eq!(most, [2048, 1536, 512, 21_504, 1024, 19_456, 1024]);
-        let none = Lengths::for_records(0).in_order();
-        assert_eq!(none, [0, 512, 512, 0, 0, 0, 1024]);
-    }
-
-    #[test]
-    fn lengths_end_at_the_greatest_size() {
-        let all = usize::MAX;
-        let found = Lengths::for_records(all).in_order();
-        assert_eq!(found, [all, all, 512, all, all, all, 1024]);
-        let fits = all / 21;
-        assert_eq!(Lengths::for_records(fits).rotations, fits * 21);
-        assert_eq!(Lengths::for_records(fits + 1).rotations, all);
-        assert_eq!(Lengths::for_records(all - 512).merges, all);
     }
 }

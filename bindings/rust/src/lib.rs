@@ -245,7 +245,8 @@
 //!
 //! ```
 //! use midvokt::{
-//!     plan_into, Buffers, Head, Lengths, Record, Rotation, LARGEST_CEILING, RECORD_WORDS,
+//!     plan_into, Buffers, Head, Lengths, Record, Rotation, Sections, LARGEST_CEILING,
+//!     RECORD_WORDS,
 //! };
 //!
 //! const LENGTHS: Lengths = Lengths::for_records(2);
@@ -256,12 +257,14 @@
 //!     eight.copy_from_slice(&record.encode());
 //! }
 //! let mut buffers = Buffers {
-//!     steps: &mut [0; LENGTHS.steps],
-//!     merges: &mut [0; LENGTHS.merges],
-//!     sizes: &mut [0; LENGTHS.sizes],
-//!     rotations: &mut [0; LENGTHS.rotations],
-//!     promotions: &mut [0; LENGTHS.promotions],
-//!     measurements: &mut [0; LENGTHS.measurements],
+//!     sections: Sections {
+//!         steps: &mut [0; LENGTHS.steps],
+//!         merges: &mut [0; LENGTHS.merges],
+//!         sizes: &mut [0; LENGTHS.sizes],
+//!         rotations: &mut [0; LENGTHS.rotations],
+//!         promotions: &mut [0; LENGTHS.promotions],
+//!         measurements: &mut [0; LENGTHS.measurements],
+//!     },
 //!     groups: &mut [0; LENGTHS.groups],
 //! };
 //! let head = Head { initial_k: 3, max_k: 8, nexpvals: 0, ceiling: LARGEST_CEILING };
@@ -284,6 +287,7 @@ mod call;
 #[cfg(not(feature = "num-complex"))]
 mod complex;
 mod kernels;
+mod lent;
 mod optimize;
 #[cfg(feature = "alloc")]
 mod pending;
@@ -298,15 +302,14 @@ mod stored_plan;
 mod words;
 mod works;
 
-pub use call::{
-    plan_into, plan_words, Buffers, Groups, Head, Lengths, Summary, LARGEST_CEILING, RESULT_WORDS,
-};
+pub use call::{plan_into, plan_words, Head, Summary, LARGEST_CEILING, RESULT_WORDS};
 #[cfg(not(feature = "num-complex"))]
 pub use complex::Complex;
 pub use kernels::{
     insert_zero_bit, ActivePauliAction, PrecomputedActivePauliMeasurementKernel,
     PrecomputedActivePauliRotationKernel,
 };
+pub use lent::{Buffers, Groups, Lengths, Sections};
 #[cfg(feature = "num-complex")]
 pub use num_complex::Complex64 as Complex;
 pub use optimize::{
@@ -330,7 +333,7 @@ pub use rows::{
     ActiveComponentStepKind, ActiveComponentStepRef, MEASUREMENT_WORDS, ROTATION_WORDS, STEP_WORDS,
 };
 pub use stored::{
-    file_bytes, load_into, load_words, store_into, store_words, Counts, Loaded, Scalars, Sections,
+    file_bytes, load_into, load_words, store_into, store_words, Counts, Loaded, Scalars,
     FILE_VERSION, LOAD_RESULT_WORDS, SCALAR_WORDS, STORE_RESULT_WORDS, TRAILER_WORDS,
 };
 #[cfg(feature = "alloc")]

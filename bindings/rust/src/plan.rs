@@ -1,10 +1,10 @@
 //! A whole plan in memory of its own, with the field names of the Rust simulator, and the calls
 //! that make one.
 
-use alloc::vec;
 use alloc::vec::Vec;
 
-use crate::call::{plan_into, Buffers, Head, Lengths, Summary};
+use crate::call::{plan_into, Head, Summary};
+use crate::lent::{Buffers, Owned};
 use crate::record::{encode, Record, MOST_RECORDS, RECORD_WORDS};
 use crate::refusal::Refusal;
 use crate::rows::{
@@ -58,26 +58,6 @@ impl ActiveComponentPlan {
     /// once, by strictly ascending number, and nothing else.
     pub fn sources(&self, merge_offset: usize, merge_count: usize) -> &[usize] {
         part(&self.merge_components, merge_offset, merge_count).unwrap_or(&[])
-    }
-}
-
-/// Seven buffers of just the lengths that so many records need.
-pub(crate) struct Owned {
-    words: [Vec<u64>; 7],
-}
-
-impl Owned {
-    /// Zeroed buffers for so many records.
-    pub(crate) fn for_records(records: usize) -> Self {
-        let lengths = Lengths::for_records(records).in_order();
-        Self {
-            words: lengths.map(|length| vec![0; length]),
-        }
-    }
-
-    /// The same, lent.
-    pub(crate) fn lend(&mut self) -> Buffers<'_> {
-        Buffers::from(self.words.each_mut().map(Vec::as_mut_slice))
     }
 }
 

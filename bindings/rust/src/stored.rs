@@ -1,13 +1,10 @@
 //! Plans as files, over lent buffers and with nothing allocated: the calls of the proved library
 //! that store a plan and load it again. What is loaded is unjudged.
 
-use crate::call::{Buffers, Head};
+use crate::call::Head;
+use crate::lent::{call_with, Buffers, Sections};
 use crate::refusal::{Reason, Refusal};
-use crate::rows::{
-    measurement_at, part, promotion_at, rotation_at, step_at, ActiveComponentMeasurementStep,
-    ActiveComponentPromotionStep, ActiveComponentRotationStep, ActiveComponentStepRef,
-    ROTATION_WORDS, STEP_WORDS,
-};
+use crate::rows::{ROTATION_WORDS, STEP_WORDS};
 
 /// Words of the section of scalar fields.
 pub const SCALAR_WORDS: usize = 8;
@@ -29,70 +26,6 @@ pub const fn file_bytes(records: usize) -> usize {
         .saturating_mul(STEP_WORDS + 1 + ROTATION_WORDS)
         .saturating_add(511 + 512 + SCALAR_WORDS + TRAILER_WORDS);
     words.saturating_mul(8)
-}
-
-/// The six outputs that the caller lends for a plan that is loaded. Each call writes every word of
-/// them: words behind a section are zero, and after a refusal all are.
-///
-/// Nothing in them is judged. The methods read a row as they would read one of planning's: a flag
-/// other than 0 is set, and a number that its field does not hold loses its upper bits. Where that
-/// matters, compare what the row's `to_words` gives with the words.
-#[derive(Debug)]
-pub struct Sections<'a> {
-    /// Kind and payload of each record's step.
-    pub steps: &'a mut [u64],
-    /// The sources of all rows, one row's after the other's.
-    pub merges: &'a mut [u64],
-    /// The longest size of each component.
-    pub sizes: &'a mut [u64],
-    /// Rotation rows.
-    pub rotations: &'a mut [u64],
-    /// Promotion rows.
-    pub promotions: &'a mut [u64],
-    /// Measurement rows.
-    pub measurements: &'a mut [u64],
-}
-
-impl<'a> From<[&'a mut [u64]; 6]> for Sections<'a> {
-    /// Six slices in the order of the outputs.
-    fn from(words: [&'a mut [u64]; 6]) -> Self {
-        let [steps, merges, sizes, rotations, promotions, measurements] = words;
-        Self {
-            steps,
-            merges,
-            sizes,
-            rotations,
-            promotions,
-            measurements,
-        }
-    }
-}
-
-impl Sections<'_> {
-    /// The step of a record; none past the end, and none where the words are no step's.
-    pub fn step(&self, record: usize) -> Option<ActiveComponentStepRef> {
-        step_at(self.steps, record)
-    }
-
-    /// A rotation row; none past the end.
-    pub fn rotation(&self, number: usize) -> Option<ActiveComponentRotationStep> {
-        rotation_at(self.rotations, number)
-    }
-
-    /// A promotion row; none past the end.
-    pub fn promotion(&self, number: usize) -> Option<ActiveComponentPromotionStep> {
-        promotion_at(self.promotions, number)
-    }
-
-    /// A measurement row; none past the end.
-    pub fn measurement(&self, number: usize) -> Option<ActiveComponentMeasurementStep> {
-        measurement_at(self.measurements, number)
-    }
-
-    /// The part of the merge list that a row names; empty if it runs past the end.
-    pub fn sources(&self, merge_offset: usize, merge_count: usize) -> &[u64] {
-        part(self.merges, merge_offset, merge_count).unwrap_or(&[])
-    }
 }
 
 /// The scalar fields of a stored plan as words, as they stand in the file. Only `component_count`
@@ -256,31 +189,12 @@ pub fn store_words(
     // SAFETY: slices are aligned and never null, exclusive ones overlap nothing, and the
     // library reads and writes only below the lengths given with them.
     unsafe {
-        midvokt_store(
-            head.initial_k,
-            head.max_k,
-            head.nexpvals,
-            head.ceiling,
-            records.as_ptr(),
-            records.len(),
-            buffers.steps.as_mut_ptr(),
-            buffers.steps.len(),
-            buffers.merges.as_mut_ptr(),
-            buffers.merges.len(),
-            buffers.sizes.as_mut_ptr(),
-            buffers.sizes.len(),
-            buffers.rotations.as_mut_ptr(),
-            buffers.rotations.len(),
-            buffers.promotions.as_mut_ptr(),
-            buffers.promotions.len(),
-            buffers.measurements.as_mut_ptr(),
-            buffers.measurements.len(),
-            buffers.groups.as_mut_ptr(),
-            buffers.groups.len(),
-            file.as_mut_ptr(),
-            file.len(),
-            result.as_mut_ptr(),
-            result.len(),
+        call_with!(
+            midvokt_store,
+            [head.initial_k, head.max_k, head.nexpvals, head.ceiling],
+            records,
+            buffers.sections,
+            [buffers.groups, file, result]
         )
     }
 }
@@ -291,26 +205,7 @@ pub fn store_words(
 pub fn load_words(file: &[u8], sections: &mut Sections<'_>, result: &mut [u64]) -> u64 {
     // SAFETY: slices are aligned and never null, exclusive ones overlap nothing, and the
     // library reads and writes only below the lengths given with them.
-    unsafe {
-        midvokt_load(
-            file.as_ptr(),
-            file.len(),
-            sections.steps.as_mut_ptr(),
-            sections.steps.len(),
-            sections.merges.as_mut_ptr(),
-            sections.merges.len(),
-            sections.sizes.as_mut_ptr(),
-            sections.sizes.len(),
-            sections.rotations.as_mut_ptr(),
-            sections.rotations.len(),
-            sections.promotions.as_mut_ptr(),
-            sections.promotions.len(),
-            sections.measurements.as_mut_ptr(),
-            sections.measurements.len(),
-            result.as_mut_ptr(),
-            result.len(),
-        )
-    }
+    unsafe { call_with!(midvokt_load, [], file, sections, [result]) }
 }
 
 /// Plans record words into lent buffers and writes the plan's file, of which [`file_bytes`] says how

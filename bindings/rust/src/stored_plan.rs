@@ -7,7 +7,8 @@ use core::error::Error;
 use core::fmt;
 
 use crate::call::Head;
-use crate::plan::{sizes, ActiveComponentPlan, Owned};
+use crate::lent::Owned;
+use crate::plan::{sizes, ActiveComponentPlan};
 use crate::record::{encode, Record, MOST_RECORDS, RECORD_WORDS};
 use crate::refusal::Refusal;
 use crate::rows::{
@@ -15,7 +16,7 @@ use crate::rows::{
     ActiveComponentRotationStep, ActiveComponentStepKind, ActiveComponentStepRef,
     MEASUREMENT_WORDS, ROTATION_WORDS,
 };
-use crate::stored::{file_bytes, load_into, store_into, Scalars, Sections, TRAILER_WORDS};
+use crate::stored::{file_bytes, load_into, store_into, Scalars, TRAILER_WORDS};
 
 /// What a file keeps of a plan: an [`ActiveComponentPlan`] without its groups and whole works. It
 /// does not hold the ceiling that it was planned with; a controller holds its components where each
@@ -237,10 +238,9 @@ impl StoredWords {
 
     /// Loads a file into memory of just the length that it needs.
     fn load(file: &[u8]) -> Result<Self, Refusal> {
-        let mut words = Self::lengths(file).map(|length| vec![0; length]);
-        let mut sections = Sections::from(words.each_mut().map(Vec::as_mut_slice));
-        let loaded = load_into(file, &mut sections)?;
-        let [steps, merges, sizes, rotations, promotions, measurements] = words;
+        let mut owned = Owned::of_lengths(Self::lengths(file));
+        let loaded = load_into(file, &mut owned.lend())?;
+        let [steps, merges, sizes, rotations, promotions, measurements] = owned.words;
         Ok(Self {
             scalars: loaded.scalars,
             steps,

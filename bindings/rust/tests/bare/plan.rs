@@ -60,12 +60,14 @@ fn words() -> [u64; RECORDS * RECORD_WORDS] {
 /// Whether the plan of the two records is the expected one.
 fn is_planned() -> bool {
     let mut buffers = Buffers {
-        steps: &mut [0; LENGTHS.steps],
-        merges: &mut [0; LENGTHS.merges],
-        sizes: &mut [0; LENGTHS.sizes],
-        rotations: &mut [0; LENGTHS.rotations],
-        promotions: &mut [0; LENGTHS.promotions],
-        measurements: &mut [0; LENGTHS.measurements],
+        sections: Sections {
+            steps: &mut [0; LENGTHS.steps],
+            merges: &mut [0; LENGTHS.merges],
+            sizes: &mut [0; LENGTHS.sizes],
+            rotations: &mut [0; LENGTHS.rotations],
+            promotions: &mut [0; LENGTHS.promotions],
+            measurements: &mut [0; LENGTHS.measurements],
+        },
         groups: &mut [0; LENGTHS.groups],
     };
     let planned = plan_into(&HEAD, &words(), &mut buffers);
