@@ -12,6 +12,9 @@ pub const RESULT_WORDS: usize = 14;
 /// The largest ceiling that a head may have, which is that of the published Rust.
 pub const LARGEST_CEILING: u64 = 62;
 
+/// The least `max_k` with which records are read.
+const LEAST_PLANNED: u64 = 8;
+
 /// What planning knows of a program beside its records.
 #[derive(Clone, Copy, Debug, PartialEq, Eq)]
 pub struct Head {
@@ -30,7 +33,9 @@ pub struct Head {
 }
 
 impl Default for Head {
-    /// No coordinate and no expectation value, at the largest ceiling.
+    /// No coordinate, no expectation value and a `max_k` of 0, at the largest ceiling. Below 8
+    /// nothing is planned, so with this `max_k` a plan is empty, whatever `initial_k` and the
+    /// records are: [`Head::new`] has one of at least 8.
     fn default() -> Self {
         Self {
             initial_k: 0,
@@ -42,10 +47,29 @@ impl Default for Head {
 }
 
 impl Head {
+    /// A head of so many coordinates at the start: `max_k` is as many, but at least 8, so that a
+    /// small circuit is planned too; no expectation value, and the largest ceiling.
+    ///
+    /// `max_k` gives the dense peak, so where promotions make the register wider give it yourself:
+    /// `Head { max_k: 12, ..Head::new(3) }`. Do so from 62 coordinates on too: a `max_k` of the
+    /// ceiling or more is refused ([`Reason::MaxK`]). Nothing is judged here.
+    pub const fn new(initial_k: u64) -> Self {
+        Self {
+            initial_k,
+            max_k: if initial_k < LEAST_PLANNED {
+                LEAST_PLANNED
+            } else {
+                initial_k
+            },
+            nexpvals: 0,
+            ceiling: LARGEST_CEILING,
+        }
+    }
+
     /// Whether planning reads neither records nor buffers: `max_k` is below 8, or `nexpvals` is
     /// not 0. Then only the ceiling and `max_k` can be refused.
     pub fn leaves_unread(&self) -> bool {
-        self.max_k < 8 || self.nexpvals != 0
+        self.max_k < LEAST_PLANNED || self.nexpvals != 0
     }
 }
 
@@ -161,6 +185,28 @@ pub fn plan_into(
 #[cfg(test)]
 mod tests {
     use super::{Head, LARGEST_CEILING};
+
+    #[test]
+    fn a_new_head_has_a_max_of_at_least_8() {
+        let widths = [0, 3, 7, 8, 9, 61, 62, u64::MAX];
+        let heads = widths.map(Head::new);
+        let starts = heads.map(|head| head.initial_k);
+        assert_eq!(starts, widths);
+        let greatest = heads.map(|head| head.max_k);
+        assert_eq!(greatest, [8, 8, 8, 8, 9, 61, 62, u64::MAX]);
+        assert!(!heads.iter().any(Head::leaves_unread));
+        assert!(heads.iter().all(|head| head.ceiling == LARGEST_CEILING));
+    }
+
+    #[test]
+    fn a_default_head_leaves_all_unread() {
+        assert!(Head::default().leaves_unread());
+        let wide = Head {
+            initial_k: 9,
+            ..Head::default()
+        };
+        assert!(wide.leaves_unread());
+    }
 
     #[test]
     fn a_default_head_has_the_largest_ceiling() {

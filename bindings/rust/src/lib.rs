@@ -15,9 +15,9 @@
 //!
 //! ```
 //! # #[cfg(feature = "std")] {
-//! use midvokt::{plan, Head, Reason, Record, LARGEST_CEILING};
+//! use midvokt::{plan, Head, Reason, Record};
 //!
-//! let head = Head { initial_k: 3, max_k: 8, nexpvals: 0, ceiling: LARGEST_CEILING };
+//! let head = Head::new(3);
 //! let records = [Record::rotation(3, 0b101, 0, 0, 0.0)];
 //! let plan = plan(&head, &records).unwrap();
 //! assert_eq!(plan.merge_components, [0, 2]);
@@ -51,14 +51,14 @@
 //! the head ([`Head::ceiling`]). A `max_k` of the ceiling or more is refused ([`Reason::MaxK`]), and
 //! so is a join that makes a component of as many members or more ([`Reason::ComponentSize`]). What
 //! is planned is the plan of the largest ceiling, word for word. A record's width may be up to 62
-//! whatever the ceiling is. [`LARGEST_CEILING`] is that of the published Rust, and of
-//! `Head::default()`.
+//! whatever the ceiling is. [`LARGEST_CEILING`] is that of the published Rust, of [`Head::new`] and
+//! of `Head::default()`.
 //!
 //! ```
 //! # #[cfg(feature = "std")] {
-//! use midvokt::{plan, Head, Reason, Record, LARGEST_CEILING};
+//! use midvokt::{plan, Head, Reason, Record};
 //!
-//! let large = Head { initial_k: 20, max_k: 8, nexpvals: 0, ceiling: LARGEST_CEILING };
+//! let large = Head { max_k: 8, ..Head::new(20) };
 //! let small = Head { ceiling: 9, ..large };
 //! let join = |members: u32| [Record::rotation(20, (1 << members) - 1, 0, 0, 0.25)];
 //! assert_eq!(plan(&small, &join(8)), plan(&large, &join(8)));
@@ -91,9 +91,9 @@
 //!
 //! ```
 //! # #[cfg(feature = "std")] {
-//! use midvokt::{plan, Complex, Head, Record, LARGEST_CEILING};
+//! use midvokt::{plan, Complex, Head, Record};
 //!
-//! let head = Head { initial_k: 1, max_k: 8, nexpvals: 0, ceiling: LARGEST_CEILING };
+//! let head = Head::new(1);
 //! let theta = 0.5;
 //! // Y0, turned by theta: x = 1, z = 1, phase = 1.
 //! let plan = plan(&head, &[Record::rotation(1, 1, 1, 1, theta / 2.0)]).unwrap();
@@ -121,9 +121,9 @@
 //!
 //! ```
 //! # #[cfg(feature = "std")] {
-//! use midvokt::{plan, Head, Record, WholeWorks, LARGEST_CEILING};
+//! use midvokt::{plan, Head, Record, WholeWorks};
 //!
-//! let head = Head { initial_k: 11, max_k: 11, nexpvals: 0, ceiling: LARGEST_CEILING };
+//! let head = Head::new(11);
 //! let records = [0b11, 0b1100].map(|x| Record::rotation(11, x, 0, 0, 0.25));
 //! let plan = plan(&head, &records).unwrap();
 //! match plan.whole_works {
@@ -155,9 +155,9 @@
 //!
 //! ```
 //! # #[cfg(feature = "std")] {
-//! use midvokt::{load, plan, store, Head, Reason, Record, Stored, StoredPlan, LARGEST_CEILING};
+//! use midvokt::{load, plan, store, Head, Reason, Record, Stored, StoredPlan};
 //!
-//! let head = Head { initial_k: 3, max_k: 8, nexpvals: 0, ceiling: LARGEST_CEILING };
+//! let head = Head::new(3);
 //! let records = [Record::rotation(3, 0b101, 0, 0, 0.25), Record::measurement(3, 0, 0b110, 2, 2)];
 //! let file = store(&head, &records).unwrap();
 //! let kept = StoredPlan::from(plan(&head, &records).unwrap());
@@ -245,8 +245,7 @@
 //!
 //! ```
 //! use midvokt::{
-//!     plan_into, Buffers, Head, Lengths, Record, Rotation, Sections, LARGEST_CEILING,
-//!     RECORD_WORDS,
+//!     plan_into, Buffers, Head, Lengths, Record, Rotation, Sections, RECORD_WORDS,
 //! };
 //!
 //! const LENGTHS: Lengths = Lengths::for_records(2);
@@ -267,7 +266,7 @@
 //!     },
 //!     groups: &mut [0; LENGTHS.groups],
 //! };
-//! let head = Head { initial_k: 3, max_k: 8, nexpvals: 0, ceiling: LARGEST_CEILING };
+//! let head = Head::new(3);
 //! let summary = plan_into(&head, &words, &mut buffers).unwrap();
 //! assert_eq!(summary.component_peak_live_dimension, 8);
 //! assert_eq!(buffers.measurement(0).unwrap().kernel.pivot, 1);

@@ -31,7 +31,8 @@ pub struct OptimizationCounts {
     pub fused_rotations: usize,
     /// How often two rotations cancelled, so that none of the two is left.
     pub cancelled_rotations: usize,
-    /// How many rotations measurements moved in front of, all together.
+    /// How many pairs there are of a measurement and a rotation that it passed: a rotation counts
+    /// once for each measurement that moved in front of it.
     pub measurement_left_swaps: usize,
 }
 

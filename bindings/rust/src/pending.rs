@@ -324,7 +324,8 @@ pub struct PendingOptimizationStats {
     pub fused_rotations: usize,
     /// How often two rotations cancelled, so that none of the two is left.
     pub cancelled_rotations: usize,
-    /// How many rotations measurements moved in front of, all together.
+    /// How many pairs there are of a measurement and a rotation that it passed: a rotation counts
+    /// once for each measurement that moved in front of it.
     pub measurement_left_swaps: usize,
     /// Entry p is how many of the operations that are left stand before the boundary that had p
     /// before it. It is there for 0, for the list's end and for each preserved prefix; all others

@@ -148,6 +148,14 @@ fn measurements_move_over_what_commutes() {
 }
 
 #[test]
+fn swaps_are_pairs_of_a_measurement_and_a_rotation() {
+    let list = [turn(0.5, Z1), measure(Z1), measure(Z1)];
+    let (operations, [_, _, swaps]) = left(&list, &[]);
+    assert_eq!(operations[2], list[0]);
+    assert_eq!(swaps, 2);
+}
+
+#[test]
 fn the_map_has_what_was_asked_for() {
     let list = [
         turn(0.5, X0),
