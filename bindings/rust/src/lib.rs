@@ -85,6 +85,9 @@
 //! refusal tells. P is Hermitian where the phase and the number of bits in both masks are both
 //! even or both odd.
 //!
+//! [`Pauli::from_text`] reads a Pauli as a circuit file has it, `-Y0*Z2` or `-Y_Z`, and counts the Ys;
+//! `Pauli::try_from` makes one of a `PauliString`. Rotations and measurements are made of it.
+//!
 //! A rotation is exp(-i angle P): a gate that turns by theta, exp(-i theta/2 P), has the angle
 //! theta/2. The sine and cosine of a record are sin(angle) and cos(angle) of that same angle. Where
 //! their squares do not sum to 1, give or take 2^-50, the record is refused ([`Reason::Squares`]).
@@ -229,28 +232,28 @@
 //! # Features
 //!
 //! The crate is `no_std`. Without features it has [`plan_into`], [`plan_words`], [`store_into`],
-//! [`store_words`], [`load_into`], [`load_words`], [`optimize_into`], [`optimize_words`], the rows and
-//! [`Record::encode`], allocates nothing and depends on nothing.
+//! [`store_words`], [`load_into`], [`load_words`], [`optimize_into`], [`optimize_words`], the rows,
+//! [`Record::encode`] and [`Pauli::from_text`], allocates nothing and depends on nothing.
 //!
 //! * `alloc`: owned plans, which are `plan`, `plan_encoded` and `ActiveComponentPlan`, stored ones,
 //!   which are `store`, `store_encoded`, `load`, `Stored`, `StoredPlan` and `StoredWords`, pending
 //!   operations, which are `optimize`, `optimize_encoded`, `PendingOperation` and what it is made
-//!   of, and `encode`, which gives the words of all records.
-//! * `std`, on unless turned off: `alloc`, and `Record::rotation`, which computes sine and
-//!   cosine. Without it the caller gives them in [`Rotation`].
+//!   of, a [`Pauli`] of a `PauliString`, and `encode`, which gives the words of all records.
+//! * `std`, on unless turned off: `alloc`, and `Record::rotation` and `Pauli::rotation`, which compute
+//!   sine and cosine. Without it the caller gives them in [`Rotation`], or to
+//!   [`Pauli::rotation_with`].
 //! * `num-complex`: [`Complex`] is the `Complex64` of the crate num-complex 0.4, the only
 //!   dependency there is.
 //!
 //! Without `alloc`:
 //!
 //! ```
-//! use midvokt::{
-//!     plan_into, Buffers, Head, Lengths, Record, Rotation, Sections, RECORD_WORDS,
-//! };
+//! use midvokt::{plan_into, Buffers, Head, Lengths, Pauli, Sections, RECORD_WORDS};
 //!
 //! const LENGTHS: Lengths = Lengths::for_records(2);
-//! let turn = Rotation { width: 3, x: 5, z: 0, phase: 0, angle: 0.0, sine: 0.0, cosine: 1.0 };
-//! let records = [Record::Rotation(turn), Record::measurement(3, 0, 6, 0, 2)];
+//! let turned = Pauli::from_text(3, "X_X").unwrap();
+//! let measured = Pauli::from_text(3, "Z1*Z2").unwrap();
+//! let records = [turned.rotation_with(0.0, 0.0, 1.0), measured.measurement(2)];
 //! let mut words = [0; 2 * RECORD_WORDS];
 //! for (eight, record) in words.chunks_exact_mut(RECORD_WORDS).zip(&records) {
 //!     eight.copy_from_slice(&record.encode());
@@ -288,6 +291,7 @@ mod complex;
 mod kernels;
 mod lent;
 mod optimize;
+mod pauli;
 #[cfg(feature = "alloc")]
 mod pending;
 #[cfg(feature = "alloc")]
@@ -315,6 +319,7 @@ pub use optimize::{
     optimize_into, optimize_words, OptimizationCounts, MOST_OPERATIONS, MOST_PREFIXES, MOST_QUBITS,
     NO_BOUNDARY, OPERATION_WORDS, OPTIMIZE_RESULT_WORDS, SIGN_CONDITIONS,
 };
+pub use pauli::{Pauli, PauliError, PauliFault};
 #[cfg(feature = "alloc")]
 pub use pending::{
     encode_operations, optimize, optimize_encoded, Optimized, PauliString, PendingClassicalRecord,

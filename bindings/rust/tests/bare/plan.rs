@@ -10,17 +10,12 @@ use core::panic::PanicInfo;
 
 use midvokt::{
     file_bytes, load_into, optimize_into, plan_into, store_into, ActiveComponentStepKind, Buffers,
-    Head, Lengths, Record, Rotation, Sections, LARGEST_CEILING, OPERATION_WORDS, RECORD_WORDS,
+    Head, Lengths, Pauli, PauliError, Record, Sections, OPERATION_WORDS, RECORD_WORDS,
 };
 
 const RECORDS: usize = 2;
 const LENGTHS: Lengths = Lengths::for_records(RECORDS);
-const HEAD: Head = Head {
-    initial_k: 3,
-    max_k: 8,
-    nexpvals: 0,
-    ceiling: LARGEST_CEILING,
-};
+const HEAD: Head = Head::new(3);
 
 #[link(name = "c")]
 extern "C" {
@@ -38,20 +33,20 @@ fn panic(_: &PanicInfo<'_>) -> ! {
 #[no_mangle]
 extern "C" fn rust_eh_personality() {}
 
-/// The words of a rotation about X0 X2 and of a measurement of Z1 Z2.
+/// The records of a rotation about X0 X2 and of a measurement of Z1 Z2.
+fn records() -> Result<[Record; RECORDS], PauliError> {
+    Ok([
+        Pauli::from_text(3, "X_X")?.rotation_with(0.0, 0.0, 1.0),
+        Pauli::from_text(3, "Z1*Z2")?.measurement(2),
+    ])
+}
+
+/// Their words; zeros, which do not give the plan, where a text is not read.
 fn words() -> [u64; RECORDS * RECORD_WORDS] {
-    let turn = Rotation {
-        width: 3,
-        x: 0b101,
-        z: 0,
-        phase: 0,
-        angle: 0.0,
-        sine: 0.0,
-        cosine: 1.0,
-    };
-    let records = [Record::Rotation(turn), Record::measurement(3, 0, 6, 0, 2)];
     let mut words = [0; RECORDS * RECORD_WORDS];
-    for (eight, record) in words.chunks_exact_mut(RECORD_WORDS).zip(&records) {
+    let records = records();
+    let records = records.iter().flatten();
+    for (eight, record) in words.chunks_exact_mut(RECORD_WORDS).zip(records) {
         eight.copy_from_slice(&record.encode());
     }
     words
