@@ -60,12 +60,12 @@ impl Lengths {
     }
 }
 
-/// The six outputs that are stored of a plan, which the caller lends. Each call writes every word
+/// The six outputs of a plan that are stored, which the caller lends. Each call writes every word
 /// of them: words behind those that are used are zero, and after a refusal all are.
 ///
-/// The methods judge nothing, and of a plan that is loaded nobody has: a flag other than 0 is set,
-/// and a number that its field does not hold loses its upper bits. Where that matters, compare what
-/// the row's `to_words` gives with the words.
+/// Of a plan that is loaded nothing is judged. The methods read its rows as they read those of
+/// planning: a flag other than 0 is set, and a number that its field does not hold loses its upper
+/// bits. Where that matters, compare what the row's `to_words` gives with the words.
 #[derive(Debug)]
 pub struct Sections<'a> {
     /// Kind and payload of each record's step.
@@ -128,11 +128,11 @@ impl Sections<'_> {
 }
 
 /// The seven buffers that the caller lends for planning: the six outputs that are stored, and the
-/// groups. Each call writes every word of them. The six are read as if they were fields of this
-/// struct, and so are their rows: `buffers.steps`, `buffers.rotation(0)`.
+/// groups. Each call writes every word of them. The six and their rows are read as if they were of
+/// this struct: `buffers.steps`, `buffers.rotation(0)`.
 #[derive(Debug)]
 pub struct Buffers<'a> {
-    /// The outputs that are stored of a plan.
+    /// The six outputs that are stored.
     pub sections: Sections<'a>,
     /// The components that live at the end, by ascending number.
     pub groups: &'a mut [u64],
@@ -152,14 +152,14 @@ impl<'a> From<[&'a mut [u64]; 7]> for Buffers<'a> {
 impl<'a> Deref for Buffers<'a> {
     type Target = Sections<'a>;
 
-    /// The outputs that are stored of a plan.
+    /// The six outputs that are stored.
     fn deref(&self) -> &Sections<'a> {
         &self.sections
     }
 }
 
 impl<'a> DerefMut for Buffers<'a> {
-    /// The outputs that are stored of a plan.
+    /// The six outputs that are stored.
     fn deref_mut(&mut self) -> &mut Sections<'a> {
         &mut self.sections
     }

@@ -51,8 +51,8 @@
 //! the head ([`Head::ceiling`]). A `max_k` of the ceiling or more is refused ([`Reason::MaxK`]), and
 //! so is a join that makes a component of as many members or more ([`Reason::ComponentSize`]). What
 //! is planned is the plan of the largest ceiling, word for word. A record's width may be up to 62
-//! whatever the ceiling is. [`LARGEST_CEILING`] is that of the published Rust, of [`Head::new`] and
-//! of `Head::default()`.
+//! whatever the ceiling is. [`LARGEST_CEILING`] is that of the published Rust, of [`Head::new`]
+//! and of `Head::default()`.
 //!
 //! ```
 //! # #[cfg(feature = "std")] {
@@ -85,8 +85,8 @@
 //! refusal tells. P is Hermitian where the phase and the number of bits in both masks are both
 //! even or both odd.
 //!
-//! [`Pauli::from_text`] reads a Pauli as a circuit file has it, `-Y0*Z2` or `-Y_Z`, and counts the Ys;
-//! `Pauli::try_from` makes one of a `PauliString`. Rotations and measurements are made of it.
+//! [`Pauli::from_text`] reads a Pauli as a circuit file has it, `-Y0*Z2` or `-Y_Z`, and counts the
+//! Ys; `Pauli::try_from` makes one of a `PauliString`. Rotations and measurements are made of it.
 //!
 //! A rotation is exp(-i angle P): a gate that turns by theta, exp(-i theta/2 P), has the angle
 //! theta/2. The sine and cosine of a record are sin(angle) and cos(angle) of that same angle. Where
@@ -232,15 +232,15 @@
 //! # Features
 //!
 //! The crate is `no_std`. Without features it has [`plan_into`], [`plan_words`], [`store_into`],
-//! [`store_words`], [`load_into`], [`load_words`], [`optimize_into`], [`optimize_words`], the rows,
-//! [`Record::encode`] and [`Pauli::from_text`], allocates nothing and depends on nothing.
+//! [`store_words`], [`load_into`], [`load_words`], [`optimize_into`], [`optimize_words`], the
+//! rows, [`Record::encode`] and [`Pauli::from_text`], allocates nothing and depends on nothing.
 //!
 //! * `alloc`: owned plans, which are `plan`, `plan_encoded` and `ActiveComponentPlan`, stored ones,
 //!   which are `store`, `store_encoded`, `load`, `Stored`, `StoredPlan` and `StoredWords`, pending
 //!   operations, which are `optimize`, `optimize_encoded`, `PendingOperation` and what it is made
 //!   of, a [`Pauli`] of a `PauliString`, and `encode`, which gives the words of all records.
-//! * `std`, on unless turned off: `alloc`, and `Record::rotation` and `Pauli::rotation`, which compute
-//!   sine and cosine. Without it the caller gives them in [`Rotation`], or to
+//! * `std`, on unless turned off: `alloc`, and `Record::rotation` and `Pauli::rotation`, which
+//!   compute sine and cosine. Without it the caller gives them in [`Rotation`], or to
 //!   [`Pauli::rotation_with`].
 //! * `num-complex`: [`Complex`] is the `Complex64` of the crate num-complex 0.4, the only
 //!   dependency there is.

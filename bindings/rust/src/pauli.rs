@@ -10,8 +10,8 @@ use crate::record::{Record, Rotation};
 /// The bits of a mask.
 const MASK_BITS: u64 = u64::BITS as u64;
 
-/// The Pauli i^phase X^x Z^z over the active coordinates, as a [`Rotation`] has it, of which records
-/// are made.
+/// The Pauli i^phase X^x Z^z over the active coordinates, as a [`Rotation`] has it, of which
+/// records are made.
 ///
 /// ```
 /// # fn main() -> Result<(), midvokt::PauliError> {
@@ -46,11 +46,11 @@ pub struct Pauli {
 impl Pauli {
     /// A Pauli over so many active coordinates from its text, as a circuit file has it.
     ///
-    /// A sign may stand in front: `+`, `-`, `i`, `+i` or `-i`. Behind it is a letter for each active
-    /// coordinate, position 0 first: X, Y, Z, and I or _ where nothing acts. Or it is a product of
-    /// letters X, Y, Z and I with positions, `*` between them: each position below the width and
-    /// once, decimal, or with `0x` or `0b` in front. So `X_Z`, `XIZ` and `X0*Z2` are one Pauli over
-    /// three coordinates. Letters are capitals, and there is no space.
+    /// A sign may stand in front: `+`, `-`, `i`, `+i` or `-i`. Behind it is a letter for each
+    /// active coordinate, position 0 first: X, Y, Z, and I or _ where nothing acts. Or it is a
+    /// product of letters X, Y, Z and I with positions, `*` between them: each position below the
+    /// width and once, decimal, or with `0x` or `0b` in front. So `X_Z`, `XIZ` and `X0*Z2` are one
+    /// Pauli over three coordinates. Letters are capitals, and there is no space.
     ///
     /// In the phase `-` counts 2, `i` 1, and each Y 1.
     pub fn from_text(width: u64, text: &str) -> Result<Self, PauliError> {
@@ -124,8 +124,8 @@ impl Pauli {
         Ok(())
     }
 
-    /// The rotation exp(-i angle P), with the sine and cosine that Rust computes from the angle. It
-    /// needs the feature `std`; without it [`Pauli::rotation_with`] is given them.
+    /// The rotation exp(-i angle P), with the sine and cosine that Rust computes from the angle.
+    /// It needs the feature `std`; without it [`Pauli::rotation_with`] is given them.
     #[cfg(feature = "std")]
     pub fn rotation(self, angle: f64) -> Record {
         Record::rotation(self.width, self.x, self.z, self.phase, angle)
@@ -189,7 +189,8 @@ fn has_position(factors: &str, position: u64) -> bool {
         .any(|earlier| earlier == position)
 }
 
-/// The word of a mask over at most 64 qubits; none where it has another length, or a bit of no qubit.
+/// The word of a mask over at most 64 qubits; none where it has another length, or a bit of no
+/// qubit.
 #[cfg(feature = "alloc")]
 fn mask(words: &[u64], nqubits: u64) -> Option<u64> {
     let mask = match *words {
@@ -280,7 +281,8 @@ pub enum PauliFault {
     MaskBit,
     /// A `PauliString` of more qubits than a mask has bits.
     Qubits,
-    /// A `PauliString` with a mask of another length than its qubits need, or with a bit of no qubit.
+    /// A `PauliString` with a mask of another length than its qubits need, or with a bit of no
+    /// qubit.
     Masks,
 }
 
