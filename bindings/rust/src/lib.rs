@@ -85,8 +85,9 @@
 //! refusal tells. P is Hermitian where the phase and the number of bits in both masks are both
 //! even or both odd.
 //!
-//! [`Pauli::from_text`] reads a Pauli as a circuit file has it, `-Y0*Z2` or `-Y_Z`, and counts the
-//! Ys; `Pauli::try_from` makes one of a `PauliString`. Rotations and measurements are made of it.
+//! [`ActivePauli::from_text`] reads a Pauli as a circuit file has it, `-Y0*Z2` or `-Y_Z`, and
+//! counts the Ys; `ActivePauli::try_from` makes one of a `PauliString`. Rotations and measurements
+//! are made of it.
 //!
 //! A rotation is exp(-i angle P): a gate that turns by theta, exp(-i theta/2 P), has the angle
 //! theta/2. The sine and cosine of a record are sin(angle) and cos(angle) of that same angle. Where
@@ -233,26 +234,30 @@
 //!
 //! The crate is `no_std`. Without features it has [`plan_into`], [`plan_words`], [`store_into`],
 //! [`store_words`], [`load_into`], [`load_words`], [`optimize_into`], [`optimize_words`], the
-//! rows, [`Record::encode`] and [`Pauli::from_text`], allocates nothing and depends on nothing.
+//! rows, [`Record::encode`] and [`ActivePauli::from_text`], allocates nothing and depends on
+//! nothing.
 //!
 //! * `alloc`: owned plans, which are `plan`, `plan_encoded` and `ActiveComponentPlan`, stored ones,
 //!   which are `store`, `store_encoded`, `load`, `Stored`, `StoredPlan` and `StoredWords`, pending
 //!   operations, which are `optimize`, `optimize_encoded`, `PendingOperation` and what it is made
-//!   of, a [`Pauli`] of a `PauliString`, and `encode`, which gives the words of all records.
-//! * `std`, on unless turned off: `alloc`, and `Record::rotation` and `Pauli::rotation`, which
-//!   compute sine and cosine. Without it the caller gives them in [`Rotation`], or to
-//!   [`Pauli::rotation_with`].
+//!   of, an [`ActivePauli`] of a `PauliString`, and `encode`, which gives the words of all
+//!   records.
+//! * `std`, on unless turned off: `alloc`, and `Record::rotation` and `ActivePauli::rotation`,
+//!   which compute sine and cosine. Without it the caller gives them in [`Rotation`], or to
+//!   [`ActivePauli::rotation_with`].
 //! * `num-complex`: [`Complex`] is the `Complex64` of the crate num-complex 0.4, the only
 //!   dependency there is.
 //!
 //! Without `alloc`:
 //!
 //! ```
-//! use midvokt::{plan_into, Buffers, Head, Lengths, Pauli, Sections, RECORD_WORDS};
+//! use midvokt::{
+//!     plan_into, ActivePauli, Buffers, Head, Lengths, Sections, RECORD_WORDS,
+//! };
 //!
 //! const LENGTHS: Lengths = Lengths::for_records(2);
-//! let turned = Pauli::from_text(3, "X_X").unwrap();
-//! let measured = Pauli::from_text(3, "Z1*Z2").unwrap();
+//! let turned = ActivePauli::from_text(3, "X_X").unwrap();
+//! let measured = ActivePauli::from_text(3, "Z1*Z2").unwrap();
 //! let records = [turned.rotation_with(0.0, 0.0, 1.0), measured.measurement(2)];
 //! let mut words = [0; 2 * RECORD_WORDS];
 //! for (eight, record) in words.chunks_exact_mut(RECORD_WORDS).zip(&records) {
@@ -319,7 +324,7 @@ pub use optimize::{
     optimize_into, optimize_words, OptimizationCounts, MOST_OPERATIONS, MOST_PREFIXES, MOST_QUBITS,
     NO_BOUNDARY, OPERATION_WORDS, OPTIMIZE_RESULT_WORDS, SIGN_CONDITIONS,
 };
-pub use pauli::{Pauli, PauliError, PauliFault};
+pub use pauli::{ActivePauli, PauliError, PauliFault};
 #[cfg(feature = "alloc")]
 pub use pending::{
     encode_operations, optimize, optimize_encoded, Optimized, PauliString, PendingClassicalRecord,

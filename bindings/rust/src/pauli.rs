@@ -15,24 +15,24 @@ const MASK_BITS: u64 = u64::BITS as u64;
 ///
 /// ```
 /// # fn main() -> Result<(), midvokt::PauliError> {
-/// use midvokt::{Pauli, Record};
+/// use midvokt::{ActivePauli, Record};
 ///
 /// // Three active coordinates: -Y at position 0, Z at position 2.
-/// let pauli = Pauli::from_text(3, "-Y0*Z2")?;
-/// assert_eq!(pauli, Pauli { width: 3, x: 0b001, z: 0b101, phase: 3 });
-/// assert_eq!(Pauli::from_text(3, "-Y_Z")?, pauli);
+/// let pauli = ActivePauli::from_text(3, "-Y0*Z2")?;
+/// assert_eq!(pauli, ActivePauli { width: 3, x: 0b001, z: 0b101, phase: 3 });
+/// assert_eq!(ActivePauli::from_text(3, "-Y_Z")?, pauli);
 /// assert_eq!(pauli.measurement(2), Record::measurement(3, 0b001, 0b101, 3, 2));
 /// # #[cfg(feature = "std")]
 /// assert_eq!(pauli.rotation(0.25), Record::rotation(3, 0b001, 0b101, 3, 0.25));
 ///
-/// let error = Pauli::from_text(3, "-Y0*Z3").unwrap_err();
+/// let error = ActivePauli::from_text(3, "-Y0*Z3").unwrap_err();
 /// # #[cfg(feature = "std")]
 /// assert_eq!(error.to_string(), "byte 5 of the Pauli: expected a position below 3");
 /// # Ok(())
 /// # }
 /// ```
 #[derive(Clone, Copy, Debug, Default, PartialEq, Eq, Hash)]
-pub struct Pauli {
+pub struct ActivePauli {
     /// The number of active coordinates.
     pub width: u64,
     /// The positions with an X or a Y, the lowest bit first.
@@ -43,7 +43,7 @@ pub struct Pauli {
     pub phase: u64,
 }
 
-impl Pauli {
+impl ActivePauli {
     /// A Pauli over so many active coordinates from its text, as a circuit file has it.
     ///
     /// A sign may stand in front: `+`, `-`, `i`, `+i` or `-i`. Behind it is a letter for each
@@ -125,7 +125,7 @@ impl Pauli {
     }
 
     /// The rotation exp(-i angle P), with the sine and cosine that Rust computes from the angle.
-    /// It needs the feature `std`; without it [`Pauli::rotation_with`] is given them.
+    /// It needs the feature `std`; without it [`ActivePauli::rotation_with`] is given them.
     #[cfg(feature = "std")]
     pub fn rotation(self, angle: f64) -> Record {
         Record::rotation(self.width, self.x, self.z, self.phase, angle)
@@ -203,7 +203,7 @@ fn mask(words: &[u64], nqubits: u64) -> Option<u64> {
 }
 
 #[cfg(feature = "alloc")]
-impl TryFrom<&PauliString> for Pauli {
+impl TryFrom<&PauliString> for ActivePauli {
     type Error = PauliError;
 
     /// The string over as many active coordinates as it has qubits, qubit q at position q. More
@@ -227,13 +227,13 @@ impl TryFrom<&PauliString> for Pauli {
 
 #[cfg(feature = "alloc")]
 impl PauliString {
-    /// A string of at most 64 qubits from its text, as [`Pauli::from_text`] reads it, position q
-    /// being qubit q.
+    /// A string of at most 64 qubits from its text, as [`ActivePauli::from_text`] reads it,
+    /// position q being qubit q.
     pub fn from_text(nqubits: usize, text: &str) -> Result<Self, PauliError> {
         if nqubits as u64 > MASK_BITS {
             return Err(PauliFault::Qubits.at(0));
         }
-        let pauli = Pauli::from_text(nqubits as u64, text)?;
+        let pauli = ActivePauli::from_text(nqubits as u64, text)?;
         let mut string = Self::new(nqubits);
         string.x.fill(pauli.x);
         string.z.fill(pauli.z);
@@ -344,30 +344,30 @@ mod tests {
     use std::string::ToString;
 
     /// Width, masks and phase.
-    fn pauli([width, x, z, phase]: [u64; 4]) -> Result<Pauli, PauliError> {
-        Ok(Pauli { width, x, z, phase })
+    fn pauli([width, x, z, phase]: [u64; 4]) -> Result<ActivePauli, PauliError> {
+        Ok(ActivePauli { width, x, z, phase })
     }
 
     /// What is wrong with a text, and at which byte.
     fn wrong(width: u64, text: &str) -> (PauliFault, usize) {
-        let PauliError { fault, byte } = Pauli::from_text(width, text).unwrap_err();
+        let PauliError { fault, byte } = ActivePauli::from_text(width, text).unwrap_err();
         (fault, byte)
     }
 
     #[test]
     fn letters_begin_at_position_0() {
-        assert_eq!(Pauli::from_text(3, "XIZ"), pauli([3, 1, 4, 0]));
-        assert_eq!(Pauli::from_text(3, "+X_X"), pauli([3, 5, 0, 0]));
-        assert_eq!(Pauli::from_text(3, "-_ZZ"), pauli([3, 0, 6, 2]));
-        assert_eq!(Pauli::from_text(0, ""), pauli([0, 0, 0, 0]));
-        assert_eq!(Pauli::from_text(0, "-"), pauli([0, 0, 0, 2]));
+        assert_eq!(ActivePauli::from_text(3, "XIZ"), pauli([3, 1, 4, 0]));
+        assert_eq!(ActivePauli::from_text(3, "+X_X"), pauli([3, 5, 0, 0]));
+        assert_eq!(ActivePauli::from_text(3, "-_ZZ"), pauli([3, 0, 6, 2]));
+        assert_eq!(ActivePauli::from_text(0, ""), pauli([0, 0, 0, 0]));
+        assert_eq!(ActivePauli::from_text(0, "-"), pauli([0, 0, 0, 2]));
     }
 
     #[test]
     fn each_y_and_the_sign_count_in_the_phase() {
-        let phase = |width, text| Pauli::from_text(width, text).unwrap().phase;
-        assert_eq!(Pauli::from_text(1, "Y"), pauli([1, 1, 1, 1]));
-        assert_eq!(Pauli::from_text(2, "Y0*Y1"), pauli([2, 3, 3, 2]));
+        let phase = |width, text| ActivePauli::from_text(width, text).unwrap().phase;
+        assert_eq!(ActivePauli::from_text(1, "Y"), pauli([1, 1, 1, 1]));
+        assert_eq!(ActivePauli::from_text(2, "Y0*Y1"), pauli([2, 3, 3, 2]));
         assert_eq!(
             [phase(1, "-Y"), phase(3, "YYY"), phase(4, "YYYY")],
             [3, 3, 0]
@@ -384,14 +384,23 @@ mod tests {
 
     #[test]
     fn factors_name_their_positions() {
-        assert_eq!(Pauli::from_text(3, "X2*Z0"), Pauli::from_text(3, "Z_X"));
-        assert_eq!(Pauli::from_text(4, "-Z2*Y0"), Pauli::from_text(4, "-Y_ZI"));
-        assert_eq!(Pauli::from_text(8, "I7"), pauli([8, 0, 0, 0]));
         assert_eq!(
-            Pauli::from_text(17, "X0x10*Z0b1*Y003"),
+            ActivePauli::from_text(3, "X2*Z0"),
+            ActivePauli::from_text(3, "Z_X")
+        );
+        assert_eq!(
+            ActivePauli::from_text(4, "-Z2*Y0"),
+            ActivePauli::from_text(4, "-Y_ZI")
+        );
+        assert_eq!(ActivePauli::from_text(8, "I7"), pauli([8, 0, 0, 0]));
+        assert_eq!(
+            ActivePauli::from_text(17, "X0x10*Z0b1*Y003"),
             pauli([17, 0x1_0008, 10, 1])
         );
-        assert_eq!(Pauli::from_text(64, "X63"), pauli([64, 1 << 63, 0, 0]));
+        assert_eq!(
+            ActivePauli::from_text(64, "X63"),
+            pauli([64, 1 << 63, 0, 0])
+        );
     }
 
     #[test]
@@ -438,9 +447,9 @@ mod tests {
         assert_eq!(wrong(70, "X64"), (PauliFault::MaskBit, 0));
         assert_eq!(wrong(70, "X0*I69*Z64"), (PauliFault::MaskBit, 7));
         assert_eq!(wrong(70, "I69*I69"), (PauliFault::Repeated, 5));
-        assert_eq!(Pauli::from_text(70, "X0*I69"), pauli([70, 1, 0, 0]));
+        assert_eq!(ActivePauli::from_text(70, "X0*I69"), pauli([70, 1, 0, 0]));
         let idle = "_".repeat(64);
-        assert_eq!(Pauli::from_text(64, &idle), pauli([64, 0, 0, 0]));
+        assert_eq!(ActivePauli::from_text(64, &idle), pauli([64, 0, 0, 0]));
         assert_eq!(wrong(65, &format!("{idle}Y")), (PauliFault::MaskBit, 64));
         let longer = PauliFault::Letters {
             width: 64,
@@ -451,7 +460,7 @@ mod tests {
 
     #[test]
     fn records_have_the_masks_and_the_phase() {
-        let pauli = Pauli::from_text(3, "-Y0*Z2").unwrap();
+        let pauli = ActivePauli::from_text(3, "-Y0*Z2").unwrap();
         assert_eq!(pauli.measurement(2).encode(), [4, 3, 1, 5, 3, 2, 0, 0]);
         let turn = pauli.rotation_with(0.25, 0.5, 0.75).encode();
         assert_eq!(turn[..5], [0, 3, 1, 5, 3]);
@@ -462,7 +471,7 @@ mod tests {
 
     #[test]
     fn faults_are_told_in_words() {
-        let told = |width, text| Pauli::from_text(width, text).unwrap_err().to_string();
+        let told = |width, text| ActivePauli::from_text(width, text).unwrap_err().to_string();
         let expected = [
             (
                 told(2, "X\n"),
@@ -474,7 +483,8 @@ mod tests {
             ),
             (
                 told(2, "X0*Y"),
-                "byte 3 of the Pauli: expected a factor such as X0 (X, Y, Z or I, then a position)",
+                "byte 3 of the Pauli: expected a factor such as X0 (X, Y, Z or I, then a \
+                 position)",
             ),
             (
                 told(2, "X2"),
@@ -510,7 +520,7 @@ mod tests {
 
         #[test]
         fn a_string_keeps_masks_and_phase() {
-            let of = |string| Pauli::try_from(&string);
+            let of = |string| ActivePauli::try_from(&string);
             assert_eq!(
                 of(PauliString::from_masks(3, 1, 5, -1)),
                 pauli([3, 1, 5, 3])
@@ -526,7 +536,7 @@ mod tests {
 
         #[test]
         fn no_qubit_is_cut_off() {
-            let fault = |string: &PauliString| Pauli::try_from(string).unwrap_err().fault;
+            let fault = |string: &PauliString| ActivePauli::try_from(string).unwrap_err().fault;
             assert_eq!(fault(&PauliString::new(65)), PauliFault::Qubits);
             assert_eq!(
                 fault(&string(usize::MAX, vec![], vec![])),
@@ -542,7 +552,7 @@ mod tests {
                 string(63, vec![0], vec![1 << 63]),
             ];
             assert!(bad.iter().all(|string| fault(string) == PauliFault::Masks));
-            let error = Pauli::try_from(&bad[0]).unwrap_err();
+            let error = ActivePauli::try_from(&bad[0]).unwrap_err();
             let said = "expected masks with a bit for each qubit and no other";
             assert_eq!(error.to_string(), said);
         }

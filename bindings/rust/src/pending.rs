@@ -32,7 +32,7 @@ impl From<bool> for SymbolicBool {
 
 /// The Pauli string i^phase X^x Z^z, X in front of Z at each qubit, so that each Y needs 1 more in
 /// the phase. A list's strings have 1 to 64 qubits, so that a mask is one word. Records are made
-/// of one by [`Pauli::try_from`](crate::Pauli).
+/// of one by [`ActivePauli::try_from`](crate::ActivePauli).
 #[derive(Clone, Debug, Default, PartialEq, Eq)]
 pub struct PauliString {
     /// How many qubits it has: the list's width.

@@ -54,8 +54,8 @@ pub struct ActiveMeasurement {
     pub expectation: bool,
 }
 
-/// One instruction of a program. A [`Pauli`](crate::Pauli), which is read from text, makes
-/// rotations and measurements too.
+/// One instruction of a program. An [`ActivePauli`](crate::ActivePauli), which is read from text,
+/// makes rotations and measurements too.
 #[derive(Clone, Copy, Debug, PartialEq)]
 pub enum Record {
     /// Kind 0.

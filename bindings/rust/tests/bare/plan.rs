@@ -9,8 +9,9 @@
 use core::panic::PanicInfo;
 
 use midvokt::{
-    file_bytes, load_into, optimize_into, plan_into, store_into, ActiveComponentStepKind, Buffers,
-    Head, Lengths, Pauli, PauliError, Record, Sections, OPERATION_WORDS, RECORD_WORDS,
+    file_bytes, load_into, optimize_into, plan_into, store_into, ActiveComponentStepKind,
+    ActivePauli, Buffers, Head, Lengths, PauliError, Record, Sections, OPERATION_WORDS,
+    RECORD_WORDS,
 };
 
 const RECORDS: usize = 2;
@@ -36,8 +37,8 @@ extern "C" fn rust_eh_personality() {}
 /// The records of a rotation about X0 X2 and of a measurement of Z1 Z2.
 fn records() -> Result<[Record; RECORDS], PauliError> {
     Ok([
-        Pauli::from_text(3, "X_X")?.rotation_with(0.0, 0.0, 1.0),
-        Pauli::from_text(3, "Z1*Z2")?.measurement(2),
+        ActivePauli::from_text(3, "X_X")?.rotation_with(0.0, 0.0, 1.0),
+        ActivePauli::from_text(3, "Z1*Z2")?.measurement(2),
     ])
 }
 
