@@ -217,6 +217,30 @@ fn an_unread_program_has_no_steps() {
 }
 
 #[test]
+fn a_new_head_reads_what_a_default_one_leaves_unread() {
+    let read = plan(&Head::new(3), &circuit()).unwrap();
+    assert_eq!(read, plan(&head(3), &circuit()).unwrap());
+    let default = Head {
+        initial_k: 3,
+        ..Head::default()
+    };
+    let unread = plan(&default, &circuit()).unwrap();
+    assert!(unread.instruction_steps.is_empty());
+    assert_ne!(read, unread);
+}
+
+#[test]
+fn a_new_head_is_planned_below_62_coordinates() {
+    assert!(plan(&Head::new(61), &[]).is_ok());
+    assert_eq!(plan(&Head::new(62), &[]).unwrap_err().reason, Reason::MaxK);
+    let given = Head {
+        max_k: 12,
+        ..Head::new(62)
+    };
+    assert!(plan(&given, &[]).is_ok());
+}
+
+#[test]
 fn a_full_program_fits_a_small_stack() {
     let promoted = vec![Record::Promotion; 61];
     let records: Vec<_> = promoted
