@@ -10,6 +10,9 @@ use crate::record::{Record, Rotation};
 /// The bits of a mask.
 const MASK_BITS: u64 = u64::BITS as u64;
 
+/// The letters that a factor may have.
+const FACTOR_LETTERS: [char; 4] = ['X', 'Y', 'Z', 'I'];
+
 /// The Pauli i^phase X^x Z^z over the active coordinates, as a [`Rotation`] has it, of which
 /// records are made.
 ///
@@ -93,9 +96,9 @@ impl ActivePauli {
         let width = self.width;
         let other_length = PauliFault::Letters { width, found };
         for (position, (byte, letter)) in (0..).zip(letters.char_indices()) {
-            let put = match position < width || !"XYZI_".contains(letter) {
-                true => self.put(letter, position),
-                false => Err(other_length),
+            let put = match position >= width && "XYZI_".contains(letter) {
+                true => Err(other_length),
+                false => self.put(letter, position),
             };
             put.map_err(|fault| fault.at(start + byte))?;
         }
@@ -109,7 +112,8 @@ impl ActivePauli {
     fn put_product(&mut self, text: &str, start: usize) -> Result<(), PauliError> {
         let mut byte = start;
         for word in text[start..].split('*') {
-            let (letter, position) = factor(word).ok_or(PauliFault::Factor.at(byte))?;
+            let read = factor(word);
+            let (letter, position) = read.map_err(|wrong| wrong.fault.at(byte + wrong.byte))?;
             if position >= self.width {
                 let width = self.width;
                 return Err(PauliFault::Position { width }.at(byte + 1));
@@ -174,16 +178,18 @@ fn whole(word: &str) -> Option<u64> {
     is_whole.then(|| u64::from_str_radix(digits, radix).unwrap_or(u64::MAX))
 }
 
-/// The letter and the position of a factor, if it is one.
-fn factor(word: &str) -> Option<(char, u64)> {
-    let letter = word.chars().next()?;
-    let position = word.strip_prefix(['X', 'Y', 'Z', 'I']).and_then(whole)?;
-    Some((letter, position))
+/// The letter and the position of a factor.
+fn factor(word: &str) -> Result<(char, u64), PauliError> {
+    let letter = word.chars().next();
+    let letter = letter.filter(|letter| FACTOR_LETTERS.contains(letter));
+    let letter = letter.ok_or(PauliFault::Factor.at(0))?;
+    let position = whole(&word[1..]).ok_or(PauliFault::Number.at(1))?;
+    Ok((letter, position))
 }
 
 /// Whether one of these factors has the position.
 fn has_position(factors: &str, position: u64) -> bool {
-    let factors = factors.split('*').filter_map(factor);
+    let factors = factors.split('*').flat_map(factor);
     factors
         .map(|(_, earlier)| earlier)
         .any(|earlier| earlier == position)
@@ -268,8 +274,10 @@ pub enum PauliFault {
         /// How many there are.
         found: u64,
     },
-    /// A part of a product that is no letter X, Y, Z or I with a position.
+    /// A part of a product that does not begin with X, Y, Z or I.
     Factor,
+    /// A letter of a product without a position.
+    Number,
     /// A position that is not below the width.
     Position {
         /// The width.
@@ -315,6 +323,7 @@ impl fmt::Display for PauliFault {
                 return write!(formatter, "expected a position below {width}");
             }
             Self::Factor => "expected a factor such as X0 (X, Y, Z or I, then a position)",
+            Self::Number => "expected a position",
             Self::Repeated => "expected each position once",
             Self::MaskBit => {
                 "expected nothing to act at position 64 or above, since a mask has 64 bits"
@@ -425,12 +434,22 @@ mod tests {
             "X0**Z1",
             "X0*Q1",
             "X0*_1",
-            "X0*Z",
-            "X0*Z+1",
-            "X0*Z0x",
+            "X0*x1",
+            "X0*1",
             "X0*\u{e4}1",
         ] {
             assert_eq!(wrong(3, text), (PauliFault::Factor, 3), "{text}");
+        }
+        for text in [
+            "X0*Z",
+            "X0*Z+1",
+            "X0*Z0x",
+            "X0*Z0b2",
+            "X0*Z1 ",
+            "X0*ZZ1",
+            "X0*Z\u{e4}",
+        ] {
+            assert_eq!(wrong(3, text), (PauliFault::Number, 4), "{text}");
         }
         assert_eq!(wrong(3, "-*"), (PauliFault::Factor, 1));
         assert_eq!(wrong(3, "7"), (PauliFault::Factor, 0));
@@ -482,10 +501,11 @@ mod tests {
                 "byte 1 of the Pauli: expected a letter for each position, 1 in all, found 2",
             ),
             (
-                told(2, "X0*Y"),
+                told(2, "X0*_1"),
                 "byte 3 of the Pauli: expected a factor such as X0 (X, Y, Z or I, then a \
                  position)",
             ),
+            (told(2, "X0*Y"), "byte 4 of the Pauli: expected a position"),
             (
                 told(2, "X2"),
                 "byte 1 of the Pauli: expected a position below 2",
