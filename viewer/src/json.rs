@@ -6,6 +6,7 @@ use midvokt::{
     ActiveComponentStepKind as Kind, ActivePauliAction, Complex, Head, Refusal, Scalars, WholeWorks,
 };
 
+use crate::checksum::Checksum;
 use crate::choice::Choice;
 use crate::circuit::Circuit;
 use crate::lives::{Deed, End, Event};
@@ -278,12 +279,18 @@ fn opening(name: &str, circuit: &Circuit, refusal: String) -> Fields {
     ]
 }
 
+/// A checksum's field.
+fn checksum(checksum: Option<Checksum>) -> (&'static str, String) {
+    ("checksum", optional(checksum.map(|checksum| checksum.crc)))
+}
+
 /// The fields that a stored plan and its refusal begin with; the last is null but for words that
 /// make no plan.
-fn stored_opening(name: &str, refusal: String, senseless: String) -> Fields {
+fn stored_opening(name: &str, sum: Option<Checksum>, refusal: String, senseless: String) -> Fields {
     vec![
         ("format", FORMAT.to_string()),
         ("stored", string(name)),
+        checksum(sum),
         ("refusal", refusal),
         ("senseless", senseless),
     ]
@@ -300,8 +307,11 @@ pub fn plan(view: &View<'_>) -> String {
     let null = || "null".to_owned();
     let mut fields = match &view.planned {
         Some(planned) => opening(view.name, planned.circuit, null()),
-        None => stored_opening(view.name, null(), null()),
+        None => stored_opening(view.name, view.checksum, null(), null()),
     };
+    if view.planned.is_some() && view.checksum.is_some() {
+        fields.push(checksum(view.checksum));
+    }
     fields.extend(scalars(view));
     fields.extend([
         ("component_max_k", list(&view.plan.component_max_k)),
@@ -348,19 +358,30 @@ fn scalars(view: &View<'_>) -> Fields {
 }
 
 /// A file that is refused as a stored plan.
-pub fn stored_refusal(name: &str, refusal: &Refusal, reason: &str) -> String {
+pub fn stored_refusal(
+    name: &str,
+    checksum: Option<Checksum>,
+    refusal: &Refusal,
+    reason: &str,
+) -> String {
     let about = object(&vec![
         ("number", refusal.number().to_string()),
         ("reason", string(reason)),
         ("record", optional::<u64>(None)),
         ("line", optional::<u64>(None)),
     ]);
-    tall_object(&stored_opening(name, about, "null".to_owned())) + "\n"
+    let fields = stored_opening(name, checksum, about, "null".to_owned());
+    tall_object(&fields) + "\n"
 }
 
 /// A stored plan that makes no sense, with its scalar fields as words if it was read.
-pub fn senseless(name: &str, what: &str, scalars: Option<&Scalars>) -> String {
-    let mut fields = stored_opening(name, "null".to_owned(), string(what));
+pub fn senseless(
+    name: &str,
+    checksum: Option<Checksum>,
+    what: &str,
+    scalars: Option<&Scalars>,
+) -> String {
+    let mut fields = stored_opening(name, checksum, "null".to_owned(), string(what));
     let words = scalars.map(|scalars| list(&scalars.in_order().map(wide)));
     fields.extend(words.map(|words| ("scalars", words)));
     tall_object(&fields) + "\n"

@@ -3,6 +3,7 @@
 
 use midvokt::{file_bytes, load, Refusal, Scalars, Stored, MOST_RECORDS};
 
+use crate::checksum::{self, Checksum};
 use crate::figures;
 use crate::lanes::Style;
 use crate::planning::View;
@@ -92,7 +93,13 @@ fn words(scalars: &Scalars, columns: usize) -> String {
 }
 
 /// Why a file is not shown, for a person, with what more is to be said of that.
-pub fn text(name: &str, fault: &Fault, more: &str, style: &Style) -> String {
+pub fn text(
+    name: &str,
+    checksum: Option<Checksum>,
+    fault: &Fault,
+    more: &str,
+    style: &Style,
+) -> String {
     let columns = style.columns;
     let (what, scalars) = match fault {
         Fault::Refused(refusal, words) => {
@@ -106,7 +113,8 @@ pub fn text(name: &str, fault: &Fault, more: &str, style: &Style) -> String {
         }
     };
     let words = scalars.map_or(String::new(), |scalars| words(scalars, columns));
-    format!("{name}\n\n{what}{more}{words}")
+    let checksum = checksum::line("", checksum, columns);
+    format!("{name}\n{checksum}\n{what}{more}{words}")
 }
 
 #[cfg(test)]
@@ -137,7 +145,7 @@ mod tests {
                 ];
                 (true, all.concat())
             }
-            Err(fault) => (false, super::text("-", &fault, "", &STYLE)),
+            Err(fault) => (false, super::text("-", None, &fault, "", &STYLE)),
         }
     }
 
@@ -201,7 +209,7 @@ mod tests {
         let Err(fault) = view("-", None) else {
             panic!("a plan");
         };
-        let told = super::text("-", &fault, "", &STYLE);
+        let told = super::text("-", None, &fault, "", &STYLE);
         assert!(told.contains("it is longer than 204,984 bytes"), "{told}");
     }
 }

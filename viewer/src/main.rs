@@ -4,6 +4,7 @@
 //! nothing in here plans or optimizes.
 
 mod angle;
+mod checksum;
 mod choice;
 mod circuit;
 mod fields;
@@ -40,6 +41,7 @@ use std::io::{self, ErrorKind, Write};
 use std::path::Path;
 use std::process::ExitCode;
 
+use checksum::Checksum;
 use circuit::Circuit;
 use files::Output;
 use kept::Fault;
@@ -154,7 +156,7 @@ fn stored<'a>(
 fn show(options: &Options, path: &Path) -> Result<Answer, String> {
     let name = path.to_string_lossy();
     let circuit = read(path, &visible(&name), circuit::parse)?;
-    let view = View::of(&name, &circuit);
+    let mut view = View::of(&name, &circuit);
     let words = options.words.as_ref().map(|path| Output {
         path,
         bytes: words::encode(&circuit),
@@ -164,6 +166,9 @@ fn show(options: &Options, path: &Path) -> Result<Answer, String> {
         Ok(_) => stored(options, &name, &circuit)?,
         Err(_) => None,
     };
+    if let Ok(view) = &mut view {
+        view.checksum = store.as_ref().map(|file| Checksum::of(&file.bytes));
+    }
     write(
         &[words, svg, store]
             .into_iter()
@@ -177,14 +182,18 @@ fn show(options: &Options, path: &Path) -> Result<Answer, String> {
 }
 
 /// What is said of a file that holds no plan that can be shown.
-fn faulty(options: &Options, name: &str, fault: &Fault) -> Answer {
+fn faulty(options: &Options, name: &str, checksum: Option<Checksum>, fault: &Fault) -> Answer {
     let text = match (options.json, fault) {
         (false, _) => {
-            let name = visible(name);
-            kept::text(&name, fault, &unwritten(options), &options.style)
+            let (name, more) = (visible(name), unwritten(options));
+            kept::text(&name, checksum, fault, &more, &options.style)
         }
-        (true, Fault::Refused(refusal, reason)) => json::stored_refusal(name, refusal, reason),
-        (true, Fault::Senseless(what, scalars)) => json::senseless(name, what, scalars.as_ref()),
+        (true, Fault::Refused(refusal, reason)) => {
+            json::stored_refusal(name, checksum, refusal, reason)
+        }
+        (true, Fault::Senseless(what, scalars)) => {
+            json::senseless(name, checksum, what, scalars.as_ref())
+        }
     };
     Answer {
         text,
@@ -197,10 +206,12 @@ fn show_stored(options: &Options, path: &Path) -> Result<Answer, String> {
     let name = path.to_string_lossy();
     let bytes = files::read_at_most(path, kept::MOST_BYTES)
         .map_err(|error| format!("{}: cannot be read: {error}\n", visible(&name)))?;
-    let view = match kept::view(&name, bytes.as_deref()) {
+    let checksum = bytes.as_deref().map(Checksum::of);
+    let mut view = match kept::view(&name, bytes.as_deref()) {
         Ok(view) => view,
-        Err(fault) => return Ok(faulty(options, &name, &fault)),
+        Err(fault) => return Ok(faulty(options, &name, checksum, &fault)),
     };
+    view.checksum = checksum;
     write(
         &picture(options, Some(&view))
             .into_iter()

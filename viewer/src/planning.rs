@@ -7,6 +7,7 @@ use midvokt::{
     ActivePauliAction, Head, Reason, Record, Refusal, StoredPlan, WholeWorks, LARGEST_CEILING,
 };
 
+use crate::checksum::Checksum;
 use crate::choice::Choice;
 use crate::circuit::Circuit;
 use crate::lives::{Deed, Event, Replay};
@@ -30,6 +31,8 @@ pub struct View<'a> {
     pub plan: StoredPlan,
     /// The circuit and what else only planning gives; none for a stored plan.
     pub planned: Option<Planned<'a>>,
+    /// The checksum of the stored plan that is read, or of the one that is written besides.
+    pub checksum: Option<Checksum>,
     /// Why it is selected or not.
     pub choice: Choice,
     /// The components from record to record.
@@ -100,6 +103,7 @@ impl<'a> View<'a> {
         let agrees = matches!(&followed, Ok(replay) if replay.ends_with(&planned.groups));
         Ok(Self {
             name,
+            checksum: None,
             choice: Choice::of(&circuit.head, &plan),
             replay: followed.unwrap_or_default(),
             plan,
@@ -112,6 +116,7 @@ impl<'a> View<'a> {
     pub fn of_stored(name: &'a str, plan: StoredPlan) -> Result<Self, String> {
         Ok(Self {
             name,
+            checksum: None,
             choice: Choice::of_stored(&plan),
             replay: Replay::of(&plan)?,
             plan,

@@ -9,6 +9,7 @@ use midvokt::{
 };
 
 use crate::angle;
+use crate::checksum;
 use crate::choice::{Choice, Test};
 use crate::circuit::{Circuit, Placed};
 use crate::figures;
@@ -67,10 +68,17 @@ fn stored_heading(view: &View<'_>, columns: usize) -> String {
         ),
     };
     format!(
-        "{}\n{}",
+        "{}\n{}{}",
         visible(view.name),
-        figures::wrapped("", &size, columns)
+        figures::wrapped("", &size, columns),
+        checksum::line("", view.checksum, columns)
     )
+}
+
+/// The checksum of the stored plan that is written besides, if one is.
+fn stored_besides(view: &View<'_>, columns: usize) -> String {
+    let checksum = view.checksum.filter(|_| view.planned.is_some());
+    checksum::line("The stored plan has the ", checksum, columns)
 }
 
 /// What may be meant otherwise in a circuit, a line each; empty where nothing is to be said.
@@ -338,6 +346,7 @@ pub fn plan(view: &View<'_>, style: &Style) -> String {
         }
         parts.push(groups(view));
     }
+    parts.push(stored_besides(view, columns));
     if !view.agrees {
         let words = "The lanes drawn here do not agree with the plan. The plan counts.";
         parts.push(figures::wrapped("", words, columns));
