@@ -1,9 +1,12 @@
 //! Why a plan is selected or not: the four tests of the choice, each with its two sides. The
-//! plan's own field decides; the tests are computed again here only to be shown.
+//! field of a plan that was planned now decides, and the tests are computed again only to be shown; a
+//! stored plan is held to them.
 
 use midvokt::{ActiveComponentStepKind as Kind, Head, StoredPlan};
 
 use crate::figures;
+use crate::sense::require;
+use crate::text;
 
 /// The least max with which records are read.
 pub const LEAST_MAX: u64 = 8;
@@ -139,6 +142,17 @@ impl Choice {
         }
     }
 
+    /// Whether a stored plan is selected where all its tests pass, and there alone.
+    pub fn is_sound(&self, plan: &StoredPlan) -> Result<(), String> {
+        let Self::Tested { tests, agrees } = self else {
+            return Ok(());
+        };
+        require(*agrees, || {
+            let found = u8::from(plan.selected);
+            format!("selected is {found}, and {}", text::verdict(tests))
+        })
+    }
+
     /// The tests of a plan, or why there are none.
     pub fn of(head: &Head, plan: &StoredPlan) -> Self {
         if head.max_k < LEAST_MAX {
@@ -225,10 +239,13 @@ mod tests_of_choice {
             selected: true,
             ..unread
         };
-        assert!(matches!(
-            Choice::of_stored(&selected),
-            Choice::Tested { agrees: false, .. }
-        ));
+        let choice = Choice::of_stored(&selected);
+        assert_eq!(
+            choice.is_sound(&selected).unwrap_err(),
+            "selected is 1, and 2 of the four tests fail: quantum instructions, work saved"
+        );
+        assert_eq!(Choice::Nothing.is_sound(&planned), Ok(()));
+        assert_eq!(Choice::of_stored(&planned).is_sound(&planned), Ok(()));
         assert_eq!([power(256), power(100)], ["2^8", "100"]);
     }
 

@@ -9,6 +9,7 @@ use midvokt::{
 use crate::checksum::Checksum;
 use crate::choice::Choice;
 use crate::circuit::Circuit;
+use crate::kept;
 use crate::lives::{Deed, End, Event};
 use crate::notes;
 use crate::planning::{Planned, View};
@@ -309,8 +310,10 @@ pub fn plan(view: &View<'_>) -> String {
         Some(planned) => opening(view.name, planned.circuit, null()),
         None => stored_opening(view.name, view.checksum, null(), null()),
     };
-    if view.planned.is_some() && view.checksum.is_some() {
-        fields.push(checksum(view.checksum));
+    match view.planned {
+        None => fields.push(("unchecked", string(kept::unchecked(&view.plan)))),
+        Some(_) if view.checksum.is_some() => fields.push(checksum(view.checksum)),
+        Some(_) => {}
     }
     fields.extend(scalars(view));
     fields.extend([

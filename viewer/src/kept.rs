@@ -1,12 +1,13 @@
 //! A stored plan that is read from its file: the plan where its words make one that can be followed,
 //! else in words why not, with what the file holds.
 
-use midvokt::{file_bytes, load, Refusal, Scalars, Stored, MOST_RECORDS};
+use midvokt::{file_bytes, load, Refusal, Scalars, Stored, StoredPlan, MOST_RECORDS};
 
 use crate::checksum::{self, Checksum};
 use crate::figures;
 use crate::lanes::Style;
 use crate::planning::View;
+use crate::sense;
 use crate::trailer;
 
 /// From so many columns on, a scalar field's word stands beside its name.
@@ -18,6 +19,20 @@ pub enum Fault {
     Refused(Refusal, String),
     /// It makes no sense, for this reason; with the scalar fields of a file that was read.
     Senseless(String, Option<Scalars>),
+}
+
+/// What of a stored plan no row tells, and what nothing tells where there is none.
+const UNCHECKED: &str = "that each angle belongs to its sine and cosine; a cosine's sign and \
+    digits too low for the sum of the squares; the sign of a sine of 0; masks, sources and \
+    pivots where others make a plan too";
+const UNCHECKED_OF_NOTHING: &str = "how many coordinates there are at the start";
+
+/// What of a plan that is shown was not checked, since its circuit alone tells it.
+pub fn unchecked(plan: &StoredPlan) -> &'static str {
+    match sense::is_empty(plan) {
+        true => UNCHECKED_OF_NOTHING,
+        false => UNCHECKED,
+    }
 }
 
 /// The most bytes that a stored plan has.

@@ -4,7 +4,10 @@
 
 use midvokt::{ActiveComponentStepKind as Kind, ActivePauliAction, StoredPlan};
 
+use crate::kernel_sense;
 use crate::sense::{self, Rows};
+use crate::sources;
+use crate::tally::Tally;
 
 /// What a record does to its component.
 #[derive(Clone, Copy, Debug, PartialEq, Eq)]
@@ -112,17 +115,19 @@ impl Replay {
     pub fn of(plan: &StoredPlan) -> Result<Self, String> {
         let mut replay = Self::default();
         let mut rows = Rows::default();
-        for component in 0..sense::first_components(plan)? {
-            replay.open(None, component);
-        }
+        let first = sense::first_components(plan)?;
+        (0..first).for_each(|component| replay.open(None, component));
+        let mut tally = Tally::start(first);
         for (record, step) in plan.instruction_steps.iter().enumerate() {
             rows.take(plan, step)
                 .and_then(|()| replay.step(plan, record, step.kind, step.payload))
+                .and_then(|()| tally.take(step.kind, replay.event(record)))
                 .map_err(|what| format!("record {record}: {what}"))?;
         }
         rows.are_all(plan)?;
         let longest: Vec<_> = replay.lives.iter().map(|life| life.longest).collect();
         sense::sizes(plan, &longest)?;
+        tally.is_of(plan, &longest)?;
         Ok(replay)
     }
 
@@ -159,6 +164,7 @@ impl Replay {
                 let step = &plan.rotations[row];
                 let sources = plan.sources(step.merge_offset, step.merge_count);
                 self.join(record, row, sources, &step.kernel.action)?;
+                kernel_sense::rotation(&step.kernel)?;
             }
             Kind::Promotion => {
                 let component = plan.promotions[row].component;
@@ -173,6 +179,7 @@ impl Replay {
                 self.join(record, row, sources, &step.kernel.action)?;
                 let members = self.members[step.component].len();
                 sense::removal(step, members)?;
+                kernel_sense::measurement(&step.kernel)?;
                 self.remove(record, step.component, step.kernel.pivot);
             }
         }
@@ -187,7 +194,10 @@ impl Replay {
         sources: &[usize],
         action: &ActivePauliAction,
     ) -> Result<(), String> {
-        sense::sources(sources, &self.members)?;
+        sources::live(sources, &self.members)?;
+        let members = sources.iter().map(|&source| self.members[source].len());
+        sense::action(action, members.sum())?;
+        sources::reach(action, sources, &self.members)?;
         let component = sources[0];
         for &source in &sources[1..] {
             let members = std::mem::take(&mut self.members[source]);
@@ -198,7 +208,7 @@ impl Replay {
             };
         }
         self.note(record, row, sources.to_vec());
-        sense::action(action, self.members[component].len())
+        Ok(())
     }
 
     /// Notes a rotation of the first of the sources, which the others have joined.

@@ -12,6 +12,7 @@ mod figures;
 mod files;
 mod json;
 mod kept;
+mod kernel_sense;
 // Used once outputs and inputs ask what a file is.
 #[allow(dead_code)]
 mod kinds;
@@ -29,8 +30,10 @@ mod places;
 mod planning;
 mod sense;
 mod shapes;
+mod sources;
 mod svg;
 mod symbols;
+mod tally;
 mod terminal;
 mod text;
 mod trailer;

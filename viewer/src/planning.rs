@@ -114,11 +114,14 @@ impl<'a> View<'a> {
 
     /// Takes a stored plan, or says what is senseless about it.
     pub fn of_stored(name: &'a str, plan: StoredPlan) -> Result<Self, String> {
+        let choice = Choice::of_stored(&plan);
+        let replay = Replay::of(&plan)?;
+        choice.is_sound(&plan)?;
         Ok(Self {
             name,
             checksum: None,
-            choice: Choice::of_stored(&plan),
-            replay: Replay::of(&plan)?,
+            choice,
+            replay,
             plan,
             planned: None,
             agrees: true,

@@ -13,6 +13,7 @@ use crate::checksum;
 use crate::choice::{Choice, Test};
 use crate::circuit::{Circuit, Placed};
 use crate::figures;
+use crate::kept;
 use crate::lanes::{self, Style};
 use crate::line::visible;
 use crate::lives::{Deed, Event};
@@ -315,7 +316,7 @@ fn groups(view: &View<'_>) -> String {
     text
 }
 
-/// The heading, the choice and, for a circuit, the notes.
+/// The heading, the choice and, for a circuit, the notes; for a stored plan, what was not checked.
 fn opening(view: &View<'_>, columns: usize) -> Vec<String> {
     let choice = choice(view, columns);
     match &view.planned {
@@ -324,7 +325,11 @@ fn opening(view: &View<'_>, columns: usize) -> Vec<String> {
             let heading = heading(&name, planned.circuit, columns);
             vec![heading, choice, noted(planned.circuit, columns)]
         }
-        None => vec![stored_heading(view, columns), choice],
+        None => {
+            let words = kept::unchecked(&view.plan);
+            let unchecked = figures::wrapped("Unchecked: ", words, columns);
+            vec![stored_heading(view, columns), choice, unchecked]
+        }
     }
 }
 
