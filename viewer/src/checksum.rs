@@ -1,5 +1,5 @@
-//! The checksum of a stored plan, as the POSIX command cksum computes it, so that two engineers can
-//! compare the files that they have.
+//! The checksum of a stored plan, as the POSIX command cksum computes it, so that two engineers
+//! can compare the files that they have.
 
 use std::fmt;
 

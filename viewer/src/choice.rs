@@ -1,6 +1,6 @@
 //! Why a plan is selected or not: the four tests of the choice, each with its two sides. The
-//! field of a plan that was planned now decides, and the tests are computed again only to be shown; a
-//! stored plan is held to them.
+//! field of a plan that was planned now decides, and the tests are computed again only to be shown;
+//! a stored plan is held to them.
 
 use midvokt::{ActiveComponentStepKind as Kind, Head, StoredPlan};
 

@@ -1,6 +1,6 @@
-//! What a row's kernel has to be by its own masks, phase, sine and pivot: each word that follows from
-//! others is computed again and held to them, floats by their bits. What the circuit alone tells
-//! (masks, angle, sine, cosine, pivot) is held to its bounds.
+//! What a row's kernel has to be by its own masks, phase, sine and pivot: each word that follows
+//! from others is computed again and held to them, floats by their bits. What the circuit alone
+//! tells (masks, angle, sine, cosine, pivot) is held to its bounds.
 
 use std::fmt::Display;
 
@@ -71,7 +71,7 @@ fn action(action: &ActivePauliAction) -> Result<usize, String> {
     Ok(exponent)
 }
 
-/// The angle is a number, and sine and cosine are those of some angle, as far as their squares tell.
+/// The angle is finite, and sine and cosine are of one angle, as far as their squares tell.
 fn floats(kernel: &Rotation) -> Result<(), String> {
     let (angle, sine, cosine) = (
         kernel.kernel_angle,
@@ -95,7 +95,7 @@ fn floats(kernel: &Rotation) -> Result<(), String> {
     })
 }
 
-/// What a rotation row for a component of fewer than 62 members says besides its masks and its angle.
+/// What the row of a rotation, of fewer than 62 members, says besides its masks and its angle.
 pub fn rotation(kernel: &Rotation) -> Result<(), String> {
     let exponent = action(&kernel.action)?;
     floats(kernel)?;
@@ -125,7 +125,7 @@ pub fn rotation(kernel: &Rotation) -> Result<(), String> {
     )
 }
 
-/// The words of a measurement that is not diagonal, in the order diagonal, phase bit, z without pivot.
+/// Diagonal flag, phase bit and z without pivot of a measurement that is not diagonal.
 fn nondiagonal(kernel: &Measurement) -> Result<(bool, i32, u64), String> {
     let pivot = kernel.pivot;
     require(kernel.action.xmask >> pivot & 1 == 1, || {
@@ -134,7 +134,7 @@ fn nondiagonal(kernel: &Measurement) -> Result<(bool, i32, u64), String> {
     Ok((false, 0, 0))
 }
 
-/// The same words of a diagonal measurement, by its phase exponent.
+/// The same of a diagonal measurement, by its phase exponent.
 fn diagonal(kernel: &Measurement, exponent: usize) -> Result<(bool, i32, u64), String> {
     let (pivot, z) = (kernel.pivot, kernel.action.zmask);
     require(z >> pivot & 1 == 1, || {

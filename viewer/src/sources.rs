@@ -1,5 +1,5 @@
-//! What the sources of a row have to be: components that live, those that the row's masks reach, and
-//! in front of them the one that the others join.
+//! What the sources of a row have to be: components that live, those that the row's masks reach,
+//! and in front of them the one that the others join.
 
 use std::cmp::Reverse;
 
@@ -58,8 +58,8 @@ fn idle(sources: &[usize], members: &[Vec<usize>]) -> Result<(), String> {
     })
 }
 
-/// The sources are those that the masks reach, which have no bit above all members, and the one that
-/// the others join is the first of them.
+/// The sources are those that the masks reach, which have no bit above all members, and the one
+/// that the others join is the first of them.
 pub fn reach(
     action: &ActivePauliAction,
     sources: &[usize],

@@ -1,6 +1,6 @@
 //! What a plan's records come to: works as floats, summed in the order of the records, and
-//! dimensions. They are counted again by the steps and sources alone, and the plan's scalar fields are
-//! held to them.
+//! dimensions. They are counted again by the steps and sources alone, and the plan's scalar fields
+//! are held to them.
 
 use midvokt::{ActiveComponentStepKind as Kind, StoredPlan};
 
