@@ -351,6 +351,12 @@ mod tests {
             measured(1, |kernel| kernel.diagonal_phase_bit = 0),
             measured(1, |kernel| kernel.z_without_pivot = 3),
             measured(1, |kernel| kernel.pivot = 0),
+            measured(0, |kernel| kernel.action.xmask = 1),
+            measured(2, |kernel| kernel.action.zmask = 0),
+            measured(2, |kernel| {
+                kernel.action.even_phase = PHASES[3];
+                kernel.action.odd_phase = -PHASES[3];
+            }),
             measured(2, |kernel| kernel.out_dim = 0),
         ];
         let wanted = [
@@ -362,6 +368,9 @@ mod tests {
             "record 4: its phase bit is 0, and by its masks and phase it is 1",
             "record 4: its z without pivot is 3, and by its masks and pivot it is 1",
             "record 4: its z without pivot is 1, and by its masks and pivot it is 2",
+            "record 3: its pivot is 1, and a member with X or Y is expected",
+            "record 5: its pivot is 0, and a member with Z is expected",
+            "record 5: its even phase is (0.0, -1.0), and without X a real one is expected",
             "record 5: its out dimension is 0, and by its size it is 1",
         ];
         assert_eq!(found, wanted);
