@@ -311,7 +311,7 @@ pub fn plan(view: &View<'_>) -> String {
         None => stored_opening(view.name, view.checksum, null(), null()),
     };
     match view.planned {
-        None => fields.push(("unchecked", string(kept::unchecked(&view.plan)))),
+        None => fields.push(("unchecked", string(&kept::unchecked(&view.plan)))),
         Some(_) if view.checksum.is_some() => fields.push(checksum(view.checksum)),
         Some(_) => {}
     }

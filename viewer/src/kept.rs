@@ -21,17 +21,23 @@ pub enum Fault {
     Senseless(String, Option<Scalars>),
 }
 
-/// What of a stored plan no row tells, and what nothing tells where there is none.
+/// What of a stored plan nothing tells: of one with steps or components, of such a one with a dense
+/// work that may stay the same where 1 is added, and of one without.
 const UNCHECKED: &str = "that each angle belongs to its sine and cosine; a cosine's sign and \
     digits too low for the sum of the squares; the sign of a sine of 0; masks, sources and \
     pivots where others make a plan too";
+const UNCHECKED_OF_LARGE_WORK: &str =
+    "; whether a record is a global phase where no coordinate is active";
+const LARGE_WORK: f64 = (1u64 << 53) as f64;
 const UNCHECKED_OF_NOTHING: &str = "how many coordinates there are at the start";
 
 /// What of a plan that is shown was not checked, since its circuit alone tells it.
-pub fn unchecked(plan: &StoredPlan) -> &'static str {
+pub fn unchecked(plan: &StoredPlan) -> String {
+    let work = plan.estimated_dense_work;
     match sense::is_empty(plan) {
-        true => UNCHECKED_OF_NOTHING,
-        false => UNCHECKED,
+        true => UNCHECKED_OF_NOTHING.to_owned(),
+        false if work >= LARGE_WORK => UNCHECKED.to_owned() + UNCHECKED_OF_LARGE_WORK,
+        false => UNCHECKED.to_owned(),
     }
 }
 
@@ -217,6 +223,22 @@ mod tests {
             }
         }
         assert!(plans > 100, "{plans}");
+    }
+
+    /// Where 52 coordinates leave, the work is so large that a global phase adds nothing to it.
+    #[test]
+    fn a_global_phase_beside_a_large_work_is_said_to_be_unchecked() {
+        for (coordinates, is_open) in [(51, false), (52, true)] {
+            let measured = "measure x=1 z=0 pivot 0\n".repeat(coordinates);
+            let text = format!("initial {coordinates}\nmax 8\n{measured}record");
+            let circuit = circuit::parse(text.as_bytes()).unwrap();
+            let mut file = planning::stored(&circuit).unwrap();
+            let (_, whole) = shown(&file);
+            file[16 * coordinates] ^= 1;
+            let (is_plan, damaged) = shown(&file);
+            assert_eq!(is_plan, is_open, "{damaged}");
+            assert_eq!(whole.contains(UNCHECKED_OF_LARGE_WORK), is_open);
+        }
     }
 
     #[test]

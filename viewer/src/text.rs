@@ -327,7 +327,7 @@ fn opening(view: &View<'_>, columns: usize) -> Vec<String> {
         }
         None => {
             let words = kept::unchecked(&view.plan);
-            let unchecked = figures::wrapped("Unchecked: ", words, columns);
+            let unchecked = figures::wrapped("Unchecked: ", &words, columns);
             vec![stored_heading(view, columns), choice, unchecked]
         }
     }
