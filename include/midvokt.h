@@ -6,6 +6,7 @@
  * those that a simulator has queued and not yet planned, shorter. C99 and C++11. To link:
  *
  *     cc -I include program.c target/staticlib/libmidvokt.a -lm
+ *     c++ -I include program.cpp target/staticlib/libmidvokt.a -lm
  *
  * The library itself needs memcpy, memmove and memset alone; -lm is for the sine and the cosine
  * of a program's angles. midvokt_buffers.h, beside this header, has the buffers as one struct,
@@ -564,9 +565,11 @@ enum midvokt_number {
  *               as much to be selected. Give the greatest number of active coordinates; it is
  *               not held to the records. Below MIDVOKT_LEAST_MAX_K nothing is planned (see
  *               below): give that to have the rows of a small circuit. The ceiling or more is
- *               refused
+ *               refused: where as many coordinates are active give one less than the ceiling.
+ *               So under a ceiling of 8 or less no record is ever read
  *   nexpvals    the number of expectation values that the program has; a program that has any
- *               is not split
+ *               is not split, and none of its records is read. While this is 0, measurements
+ *               with the expectation flag are passed over
  *   ceiling     what the controller holds: registers of fewer coordinates than this, 1 to
  *               MIDVOKT_LARGEST_CEILING. A record whose join would make a component of so many
  *               members is refused; the active coordinates of a record may be more, up to 62.

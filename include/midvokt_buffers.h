@@ -125,7 +125,8 @@ typedef struct midvokt_buffers {
 /* Gets buffers that are enough for n records, one block of zeros, from calloc. What the struct
  * held before is not looked at. Returns MIDVOKT_MADE; or MIDVOKT_NOT_MADE where there is not so
  * much memory, or no size_t counts its bytes, or the struct is null. Then the lengths are 0, and
- * planning that reads records is refused with MIDVOKT_REFUSED_BUFFERS. */
+ * planning that reads records is refused with MIDVOKT_REFUSED_BUFFERS. A struct that was got before
+ * is given back first by its caller. */
 static inline int midvokt_buffers_alloc(midvokt_buffers *buffers, size_t n)
 {
     const size_t fixed = MIDVOKT_BUFFERS_WORDS(0);
@@ -168,8 +169,8 @@ typedef struct midvokt_head {
 /* The head of a program that starts with initial_k active coordinates, and of which `widest` is
  * the greatest number of active coordinates. max_k is that number, but at least
  * MIDVOKT_LEAST_MAX_K, so that the records are read; nexpvals is 0; the ceiling is the largest.
- * For a program with expectation values, or a controller with a smaller ceiling, the fields are
- * changed. */
+ * From a widest of 62 on that is refused with MIDVOKT_REFUSED_MAX_K: give 61 there. For a program
+ * with expectation values, or a controller with a smaller ceiling, the fields are changed. */
 static inline midvokt_head midvokt_head_of(uint64_t initial_k, uint64_t widest)
 {
     midvokt_head head;
@@ -222,8 +223,9 @@ static inline uint64_t midvokt_plan_records(midvokt_head head, const uint64_t *r
 }
 
 /* midvokt_store of the same, into so many bytes for the file: returns its number. The outputs are
- * those of the plan. `length`, which may be null, gets the file's length in bytes, and 0 after a
- * refusal. A file at null has no bytes. */
+ * those of the plan, and the result is that of midvokt_store: no field of the plan is in it, and
+ * MIDVOKT_RESULT_SELECTED is the length there. `length`, which may be null, gets the file's length
+ * in bytes, and 0 after a refusal. A file at null has no bytes. */
 static inline uint64_t midvokt_store_records(midvokt_head head, const uint64_t *records,
                                              size_t count, midvokt_buffers *buffers,
                                              uint8_t *file, size_t file_len, size_t *length)
@@ -463,8 +465,9 @@ static inline int midvokt_write_pauli(uint64_t *record, uint64_t kind, uint64_t 
 /* Each builder writes the eight words of one record. It returns MIDVOKT_MADE; or
  * MIDVOKT_NOT_MADE where the Pauli cannot be read over `width` positions (see
  * midvokt_read_pauli), and the record gets MIDVOKT_NO_KIND. A record at null is not made, and not
- * written. `width` is the number of active coordinates. Nothing else is judged: not whether the
- * Pauli is Hermitian, nor the angle or the pivot; the call judges these. */
+ * written. `width` is the number of active coordinates. Nothing else is judged. The call judges the
+ * angle and the pivot; whether the Pauli is Hermitian it asks only where a measurement has no
+ * local x bit (MIDVOKT_REFUSED_EIGENVALUES), so that no sign i or -i should be given here. */
 
 /* The rotation exp(-i angle P), with the sine and the cosine of the angle. A gate that turns by
  * theta has the angle theta/2. */
@@ -491,7 +494,8 @@ static inline int midvokt_measurement(uint64_t *record, uint64_t width, const ch
     return MIDVOKT_MADE;
 }
 
-/* An expectation, of which planning reads no Pauli. The head's nexpvals counts them. */
+/* An expectation, of which planning reads no Pauli. While the head's nexpvals is 0 it is passed
+ * over; where nexpvals counts it, no record is read (see midvokt_plan). */
 static inline int midvokt_expectation(uint64_t *record)
 {
     if (record == NULL)
