@@ -4,8 +4,8 @@
 
 use midvokt::{FILE_VERSION, TRAILER_WORDS};
 
-/// So far into a file a picture's first element is looked for, behind what may stand before it.
-const OPENING: usize = 4096;
+use crate::kept::MOST_BYTES;
+
 /// The bytes of a word.
 const WORD: usize = 8;
 
@@ -16,7 +16,8 @@ pub enum Kind {
     Empty,
     /// An SVG picture.
     Picture,
-    /// Bytes whose last words say their own length and a version, as those of a stored plan.
+    /// Bytes whose last words say their own length and a version, as those of a stored plan, and
+    /// no more of them than one has.
     StoredPlan,
     /// Text with a line of a circuit's head.
     Circuit,
@@ -30,6 +31,22 @@ pub enum Kind {
     Binary,
 }
 
+impl Kind {
+    /// The kind in words.
+    pub fn name(self) -> &'static str {
+        match self {
+            Self::Empty => "an empty file",
+            Self::Picture => "a picture",
+            Self::StoredPlan => "a stored plan",
+            Self::Circuit => "a circuit",
+            Self::List => "a list of pending operations",
+            Self::Text => "text",
+            Self::Utf16 => "text in UTF-16",
+            Self::Binary => "binary data",
+        }
+    }
+}
+
 /// The word of a file that ends so many bytes before its end.
 fn word_before_end(bytes: &[u8], behind: usize) -> Option<u64> {
     let end = bytes.len().checked_sub(behind)?;
@@ -37,20 +54,45 @@ fn word_before_end(bytes: &[u8], behind: usize) -> Option<u64> {
     Some(u64::from_le_bytes(word.try_into().ok()?))
 }
 
-/// Whether bytes end as a stored plan does: with their own length, and a version.
+/// Whether bytes end as a stored plan does, with their own length and a version, and are no more
+/// than one has.
 fn is_stored_plan(bytes: &[u8]) -> bool {
-    let is_long = bytes.len() >= TRAILER_WORDS * WORD && bytes.len().is_multiple_of(WORD);
+    let has_length = (TRAILER_WORDS * WORD..=MOST_BYTES).contains(&bytes.len());
     let says_length = word_before_end(bytes, WORD) == Some(bytes.len() as u64);
-    is_long && says_length && word_before_end(bytes, 0) == Some(FILE_VERSION)
+    let has_words = bytes.len().is_multiple_of(WORD);
+    has_length && has_words && says_length && word_before_end(bytes, 0) == Some(FILE_VERSION)
 }
 
-/// Whether text begins as an SVG picture does, behind a declaration or comments.
+/// Whether bytes begin as text in UTF-16 does, and no unit of them is 0.
+fn is_utf16(bytes: &[u8]) -> bool {
+    let begins = bytes.starts_with(&[0xff, 0xfe]) || bytes.starts_with(&[0xfe, 0xff]);
+    begins && bytes.chunks_exact(2).all(|unit| unit != [0, 0])
+}
+
+/// What stands behind a declaration, a comment or a document type in front of XML; none where it
+/// does not end.
+fn behind_markup(text: &str) -> Option<&str> {
+    let has_list = |text: &str| {
+        let place = text.find(['[', '>']);
+        place.is_some_and(|place| text[place..].starts_with('['))
+    };
+    let (_, rest) = match text {
+        _ if text.starts_with("<?") => text.split_once("?>"),
+        _ if text.starts_with("<!--") => text.split_once("-->"),
+        _ if has_list(text) => text.split_once(']')?.1.split_once('>'),
+        _ => text.split_once('>'),
+    }?;
+    Some(rest.trim_start())
+}
+
+/// Whether text begins as an SVG picture does, behind a declaration, comments or a document type.
 fn is_picture(text: &str) -> bool {
-    let begins = text.trim_start().starts_with('<');
-    let opening: String = text.chars().take(OPENING).collect();
-    let place = opening.find("<svg");
-    let name_ends = |rest: &str| rest.starts_with(|c: char| c.is_whitespace() || c == '>');
-    begins && place.is_some_and(|place| name_ends(&opening[place + "<svg".len()..]))
+    let mut rest = text.trim_start();
+    while rest.starts_with("<?") || rest.starts_with("<!") {
+        rest = behind_markup(rest).unwrap_or("");
+    }
+    let behind_name = rest.strip_prefix("<svg").unwrap_or("");
+    behind_name.starts_with(|c: char| c.is_whitespace() || c == '>' || c == '/')
 }
 
 /// Whether a line of text has one of these words in front, comments aside, in whatever case.
@@ -73,17 +115,32 @@ fn of_text(text: &str) -> Kind {
     }
 }
 
+/// What bytes are that are no stored plan.
+fn of_other(bytes: &[u8]) -> Kind {
+    match std::str::from_utf8(bytes) {
+        Ok(text) if !text.contains('\0') => of_text(text.trim_start_matches('\u{feff}')),
+        _ if is_utf16(bytes) => Kind::Utf16,
+        _ => Kind::Binary,
+    }
+}
+
 /// What a file with these bytes is.
 pub fn of(bytes: &[u8]) -> Kind {
     match bytes {
         [] => Kind::Empty,
-        [0xff, 0xfe, ..] | [0xfe, 0xff, ..] => Kind::Utf16,
         _ if is_stored_plan(bytes) => Kind::StoredPlan,
-        _ => match std::str::from_utf8(bytes) {
-            Ok(text) if !text.contains('\0') => of_text(text.trim_start_matches('\u{feff}')),
-            _ => Kind::Binary,
-        },
+        _ => of_other(bytes),
     }
+}
+
+/// What a file is that begins with these bytes and has more than a stored plan: what it is so far,
+/// a character that is cut at the end aside.
+pub fn of_opening(bytes: &[u8]) -> Kind {
+    let end = match std::str::from_utf8(bytes) {
+        Err(error) if error.error_len().is_none() => error.valid_up_to(),
+        _ => bytes.len(),
+    };
+    of_other(&bytes[..end])
 }
 
 #[cfg(test)]
@@ -108,6 +165,7 @@ mod tests {
         let xml = "<?xml version=\"1.0\"?>\n<!-- made elsewhere -->\n<svg width=\"1\"/>";
         assert_eq!(of(xml.as_bytes()), Kind::Picture);
         assert_eq!(of(b"<html><svgs></html>"), Kind::Text);
+        assert_eq!(of(b"<html><svg width=\"1\"/></html>"), Kind::Text);
         assert_eq!(of(b"rotate X0 <svg >"), Kind::Text);
         assert_eq!(of("\u{feff}max 8".as_bytes()), Kind::Circuit);
         assert_eq!(of(b"# initial 3\nrecord"), Kind::Text);
@@ -117,5 +175,76 @@ mod tests {
         assert_eq!(of(b"a\0b"), Kind::Binary);
         assert_eq!(of(b"\xc3\x28"), Kind::Binary);
         assert_eq!(of(&[0; 128]), Kind::Binary);
+    }
+
+    #[test]
+    fn a_picture_begins_with_its_element() {
+        let pictures = [
+            "<svg/>",
+            "\n <svg\twidth='1'>",
+            "<!-- <html> --><?made?> <!-- again --><svg>",
+            "<!DOCTYPE svg PUBLIC \"-//W3C\" \"a.dtd\">\n<svg >",
+            "<!DOCTYPE svg [ <!ENTITY a \"b\"> ] >\n<svg >",
+        ];
+        for text in pictures {
+            assert_eq!(of(text.as_bytes()), Kind::Picture, "{text}");
+        }
+        let others = [
+            "<svg",
+            "<svgs>",
+            "<!-- <svg> -->",
+            "<!-- <svg>",
+            "<!DOCTYPE svg [ <svg> ",
+            "<!-- a picture --><html><svg></svg></html>",
+            "&lt;<svg>",
+        ];
+        for text in others {
+            assert_eq!(of(text.as_bytes()), Kind::Text, "{text}");
+        }
+    }
+
+    #[test]
+    fn words_and_stored_plans_are_no_text_in_utf_16() {
+        let circuit = circuit::parse(b"initial 65279\nmax 8").unwrap();
+        let words = words::encode(&circuit);
+        assert!(words.starts_with(&[0xff, 0xfe]));
+        assert_eq!(of(&words), Kind::Binary);
+        let mut plan = planning::stored(&circuit::parse(b"initial 3\nmax 8").unwrap()).unwrap();
+        plan[..2].copy_from_slice(&[0xff, 0xfe]);
+        assert_eq!(of(&plan), Kind::StoredPlan);
+    }
+
+    #[test]
+    fn a_stored_plan_is_no_longer_than_one_can_be() {
+        let of_length = |length: usize| {
+            let mut bytes = vec![0; length];
+            bytes[length - 16..length - 8].copy_from_slice(&(length as u64).to_le_bytes());
+            bytes[length - 8..].copy_from_slice(&FILE_VERSION.to_le_bytes());
+            of(&bytes)
+        };
+        assert_eq!(of_length(TRAILER_WORDS * 8 - 8), Kind::Binary);
+        assert_eq!(of_length(TRAILER_WORDS * 8), Kind::StoredPlan);
+        assert_eq!(of_length(TRAILER_WORDS * 8 + 1), Kind::Binary);
+        assert_eq!(of_length(MOST_BYTES), Kind::StoredPlan);
+        assert_eq!(of_length(MOST_BYTES + 8), Kind::Binary);
+    }
+
+    #[test]
+    fn an_opening_tells_what_a_long_file_is() {
+        for (text, kind) in [
+            ("<svg>", Kind::Picture),
+            ("max 8\n", Kind::Circuit),
+            ("width 8\n", Kind::List),
+            ("a", Kind::Text),
+        ] {
+            let whole = text.to_owned() + "é";
+            assert_eq!(of_opening(&whole.as_bytes()[..whole.len() - 1]), kind);
+            assert_eq!(of_opening(whole.as_bytes()), kind);
+        }
+        assert_eq!(of_opening(b"a\xc3("), Kind::Binary);
+        assert_eq!(of_opening(b"a\0\xc3"), Kind::Binary);
+        assert_eq!(of_opening(b"\xff\xfea\0b"), Kind::Utf16);
+        let plan = planning::stored(&circuit::parse(b"initial 3\nmax 8").unwrap()).unwrap();
+        assert_eq!(of_opening(&plan), Kind::Binary);
     }
 }
