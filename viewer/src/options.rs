@@ -1,6 +1,7 @@
 //! The command line, and the screen that --help prints.
 
 use std::ffi::{OsStr, OsString};
+use std::iter::Peekable;
 use std::os::unix::ffi::{OsStrExt, OsStringExt};
 use std::path::PathBuf;
 
@@ -68,9 +69,10 @@ a line a record; the components' lives as lanes; the final groups.
                 --words and no --store
   --ascii       lanes without box characters
   --columns N   the text's width, 40 to 1000; else the terminal's, or 80
-  --version     the version
---svg=FILE is --svg FILE; behind -- stands a circuit's name. An output may be
+  --version, -V the version
+--svg=FILE is --svg FILE; behind -- stands a file's name. An output may be
 neither what is read nor another output; where one cannot be written, none is.
+The file of --stored and of --optimize may stand anywhere, as a circuit's does.
 Exit status: 0 planned or optimized; 1 refused, or a stored file is no plan; 2 a
 bad file (FILE:LINE:COLUMN: expected ..., found ...), an unreadable one or a bad
 option; 3 the viewer cannot be built.
@@ -120,21 +122,25 @@ pub enum Request {
 enum Next {
     /// The next word.
     Word,
-    /// The circuit alone, behind --.
-    Circuit,
+    /// Names alone, behind --.
+    Names,
     /// Nothing more is read.
     Done(Request),
 }
 
+/// What is shown in place of a circuit: the file behind its option; or what is said where none
+/// stands there, and none elsewhere.
+type Named = Result<PathBuf, String>;
+
 /// What has been read of the command line.
 #[derive(Default)]
 struct Reader {
-    circuit: Option<PathBuf>,
+    names: Vec<PathBuf>,
     svg: Option<PathBuf>,
     words: Option<PathBuf>,
     store: Option<PathBuf>,
-    stored: Option<PathBuf>,
-    optimize: Option<PathBuf>,
+    stored: Option<Named>,
+    optimize: Option<Named>,
     columns: Option<usize>,
     json: bool,
     ascii: bool,
@@ -153,21 +159,40 @@ fn parted(word: &OsStr) -> (String, Option<OsString>) {
     }
 }
 
+/// Whether a word is an option's name, and no file's that an option takes.
+fn is_option(word: &OsStr) -> bool {
+    word.as_bytes().starts_with(b"--")
+}
+
 /// The value of an option: what stands behind =, or else the next word.
 fn value(
     name: &str,
     given: Option<OsString>,
-    words: &mut impl Iterator<Item = OsString>,
+    words: &mut Peekable<impl Iterator<Item = OsString>>,
 ) -> Result<OsString, String> {
-    let is_given = given.is_some();
-    match given.or_else(|| words.next()) {
-        Some(word) if !is_given && word.as_bytes().starts_with(b"--") => Err(format!(
+    let word = given.or_else(|| words.next_if(|word| !is_option(word)));
+    match (word, words.peek()) {
+        (Some(word), _) if !word.is_empty() => Ok(word),
+        (None, Some(next)) => Err(format!(
             "expected a word behind {name}, found {0}; {name}={1} takes it as the word",
-            shown(&word),
-            word.to_string_lossy().escape_debug()
+            shown(next),
+            next.to_string_lossy().escape_debug()
         )),
-        Some(word) if !word.is_empty() => Ok(word),
         _ => Err(format!("expected a word behind {name}, found nothing")),
+    }
+}
+
+/// The file of an option that may stand elsewhere too: no word is none, an empty one is an error.
+fn named(
+    name: &str,
+    given: Option<OsString>,
+    words: &mut Peekable<impl Iterator<Item = OsString>>,
+) -> Result<Named, String> {
+    let stands_here = given.is_some() || words.peek().is_some_and(|word| !is_option(word));
+    let file = value(name, given, words).map(PathBuf::from);
+    match stands_here {
+        true => file.map(Ok),
+        false => Ok(file),
     }
 }
 
@@ -204,14 +229,16 @@ impl Reader {
     fn word(
         &mut self,
         word: OsString,
-        words: &mut impl Iterator<Item = OsString>,
+        words: &mut Peekable<impl Iterator<Item = OsString>>,
     ) -> Result<Next, String> {
         let (name, given) = parted(&word);
         match name.as_str() {
-            "--svg" | "--words" | "--store" | "--stored" | "--optimize" => {
+            "--svg" | "--words" | "--store" => {
                 let file = value(&name, given, words)?.into();
-                once(self.file(&name), &name, file)?;
+                once(self.output(&name), &name, file)?;
             }
+            "--stored" => once(&mut self.stored, &name, named(&name, given, words)?)?,
+            "--optimize" => once(&mut self.optimize, &name, named(&name, given, words)?)?,
             "--columns" => {
                 let number = columns(&value(&name, given, words)?)?;
                 once(&mut self.columns, &name, number)?;
@@ -224,10 +251,10 @@ impl Reader {
                 ));
             }
             "--help" | "-h" => return Ok(Next::Done(Request::Help)),
-            "--version" => return Ok(Next::Done(Request::Version)),
+            "--version" | "-V" => return Ok(Next::Done(Request::Version)),
             "--json" => self.json = true,
             "--ascii" => self.ascii = true,
-            "--" => return Ok(Next::Circuit),
+            "--" => return Ok(Next::Names),
             _ if name.starts_with('-') && name != STANDARD_INPUT => {
                 return Err(format!(
                     "expected an option that --help tells, found {}",
@@ -239,65 +266,78 @@ impl Reader {
         Ok(Next::Word)
     }
 
-    /// Where the file of an option goes that names one.
-    fn file(&mut self, name: &str) -> &mut Option<PathBuf> {
+    /// Where the file of an output goes.
+    fn output(&mut self, name: &str) -> &mut Option<PathBuf> {
         match name {
             "--svg" => &mut self.svg,
             "--words" => &mut self.words,
-            "--store" => &mut self.store,
-            "--stored" => &mut self.stored,
-            _ => &mut self.optimize,
+            _ => &mut self.store,
         }
     }
 
-    /// The circuit's name, which stands once.
+    /// A name that stands without an option.
     fn name(&mut self, word: OsString) -> Result<(), String> {
         if word.is_empty() {
             return Err("expected a circuit file or -, found ''".to_owned());
         }
-        once(&mut self.circuit, "a circuit", word.into())
+        self.names.push(word.into());
+        Ok(())
     }
 
     /// That none of these is given beside an option.
     fn stands_alone(
         &self,
         option: &str,
-        others: &[(&str, &Option<PathBuf>)],
+        others: &[(&str, Option<&PathBuf>)],
     ) -> Result<(), String> {
         let given = others
             .iter()
-            .find_map(|(name, other)| Some((name, other.as_ref()?)));
+            .find_map(|(name, other)| Some((name, (*other)?)));
         given.map_or(Ok(()), |(name, other)| {
             let other = shown(other.as_os_str());
             Err(format!("expected no {name} beside {option}, found {other}"))
         })
     }
 
+    /// The file of an option that is given: the one behind it, or else the first name.
+    fn taken(&mut self, named: Option<Named>) -> Result<Option<PathBuf>, String> {
+        let elsewhere = |message| match self.names.is_empty() {
+            true => Err(message),
+            false => Ok(self.names.remove(0)),
+        };
+        named.map(|named| named.or_else(elsewhere)).transpose()
+    }
+
     /// What is shown: a circuit's plan, a stored one, with which neither a circuit nor what is made
     /// of one goes, or an optimized list, with which no picture goes either.
-    fn subject(&self) -> Result<Subject, String> {
+    fn subject(&mut self) -> Result<Subject, String> {
+        let (list, stored) = (self.optimize.take(), self.stored.take());
+        let list = self.taken(list)?;
+        let stored = self.taken(stored)?;
         let others = [
-            ("circuit", &self.circuit),
-            ("--words", &self.words),
-            ("--store", &self.store),
-            ("--svg", &self.svg),
-            ("--stored", &self.stored),
+            ("circuit", self.names.first()),
+            ("--words", self.words.as_ref()),
+            ("--store", self.store.as_ref()),
+            ("--svg", self.svg.as_ref()),
+            ("--stored", stored.as_ref()),
         ];
-        if let Some(list) = &self.optimize {
+        if let Some(list) = list {
             self.stands_alone("--optimize", &others)?;
-            return Ok(Subject::List(list.clone()));
+            return Ok(Subject::List(list));
         }
-        if let Some(stored) = &self.stored {
+        if let Some(stored) = &stored {
             self.stands_alone("--stored", &others[..3])?;
             return Ok(Subject::Stored(stored.clone()));
         }
-        let none = "expected a circuit file or -, found none; --help tells more";
-        let circuit = self.circuit.clone().map(Subject::Circuit);
-        circuit.ok_or(none.to_owned())
+        match self.names.as_slice() {
+            [circuit] => Ok(Subject::Circuit(circuit.clone())),
+            [] => Err("expected a circuit file or -, found none; --help tells more".to_owned()),
+            _ => Err("expected a circuit once, found it again".to_owned()),
+        }
     }
 
     /// The options, if a circuit, a stored plan or a list is named.
-    fn finish(self) -> Result<Options, String> {
+    fn finish(mut self) -> Result<Options, String> {
         let subject = self.subject()?;
         let of_terminal = || terminal::columns().unwrap_or(USUAL_COLUMNS);
         let columns = self.columns.unwrap_or_else(of_terminal);
@@ -361,14 +401,116 @@ impl Options {
 
 /// Reads the words behind the command's name.
 pub fn parse(words: impl Iterator<Item = OsString>) -> Result<Request, String> {
-    let mut words = words;
+    let mut words = words.peekable();
     let mut reader = Reader::default();
     while let Some(word) = words.next() {
         match reader.word(word, &mut words)? {
             Next::Word => {}
-            Next::Circuit => words.by_ref().try_for_each(|word| reader.name(word))?,
+            Next::Names => words.by_ref().try_for_each(|word| reader.name(word))?,
             Next::Done(request) => return Ok(request),
         }
     }
     reader.finish().map(Request::Show)
+}
+
+#[cfg(test)]
+mod tests {
+    use super::*;
+
+    /// What these words, parted by spaces, lead to.
+    fn parsed(line: &str) -> Result<Request, String> {
+        parse(line.split_whitespace().map(OsString::from))
+    }
+
+    /// What is shown for these words: L a list, S a stored plan, C a circuit, with its file.
+    fn subject(line: &str) -> String {
+        let (kind, path) = match parsed(line) {
+            Ok(Request::Show(options)) => match options.subject {
+                Subject::List(path) => ("L", path),
+                Subject::Stored(path) => ("S", path),
+                Subject::Circuit(path) => ("C", path),
+            },
+            Ok(_) => return "no file".to_owned(),
+            Err(message) => return message,
+        };
+        format!("{kind} {}", path.display())
+    }
+
+    #[test]
+    fn a_list_or_a_stored_plan_stands_anywhere() {
+        for line in [
+            "--optimize a",
+            "--optimize=a",
+            "--optimize --json a",
+            "--json a --optimize",
+            "a --optimize",
+            "a --optimize --json",
+            "--optimize --columns 50 a --json",
+            "--optimize -- a",
+            "--optimize --columns=50 -- a",
+        ] {
+            assert_eq!(subject(line), "L a", "{line}");
+            let line = line.replace("--optimize", "--stored");
+            assert_eq!(subject(&line), "S a", "{line}");
+        }
+        assert_eq!(subject("--optimize -- --json"), "L --json");
+        assert_eq!(subject("--optimize --json -"), "L -");
+        assert_eq!(subject("--stored --svg b a"), "S a");
+        assert_eq!(subject("--svg b a"), "C a");
+    }
+
+    #[test]
+    fn no_file_and_two_are_told() {
+        let nothing = "expected a word behind --optimize, found nothing";
+        for line in ["--optimize", "--json --optimize", "--stored a --optimize"] {
+            assert_eq!(subject(line), nothing, "{line}");
+        }
+        let option =
+            "expected a word behind --stored, found '--json'; --stored=--json takes it as \
+                      the word";
+        assert_eq!(subject("--stored --json"), option);
+        for line in ["--optimize a b", "--optimize --json a b", "a b --optimize"] {
+            let told = "expected no circuit beside --optimize, found 'b'";
+            assert_eq!(subject(line), told, "{line}");
+            let line = line.replace("--optimize", "--stored");
+            let told = "expected no circuit beside --stored, found 'b'";
+            assert_eq!(subject(&line), told, "{line}");
+        }
+        assert_eq!(
+            subject("--stored --optimize a"),
+            "expected a word behind --stored, found '--optimize'; --stored=--optimize takes it as \
+             the word"
+        );
+        assert_eq!(
+            subject("--stored a --optimize --json b"),
+            "expected no --stored beside --optimize, found 'a'"
+        );
+        assert_eq!(
+            subject("--optimize --json --optimize a"),
+            "expected --optimize once, found it again"
+        );
+        assert_eq!(
+            subject("a b --json"),
+            "expected a circuit once, found it again"
+        );
+    }
+
+    #[test]
+    fn an_empty_name_is_no_file() {
+        for line in ["--optimize= a", "a --optimize="] {
+            let told = "expected a word behind --optimize, found nothing";
+            assert_eq!(subject(line), told, "{line}");
+        }
+        let words = ["--stored", "", "a"].map(OsString::from);
+        let told = parse(words.into_iter()).err();
+        let nothing = "expected a word behind --stored, found nothing";
+        assert_eq!(told.as_deref(), Some(nothing));
+    }
+
+    #[test]
+    fn the_version_has_two_names() {
+        for line in ["-V", "--version", "a -V", "--optimize --version"] {
+            assert!(matches!(parsed(line), Ok(Request::Version)), "{line}");
+        }
+    }
 }
