@@ -8,6 +8,9 @@ use std::os::fd::AsFd;
 use std::os::unix::fs::{chown, FileTypeExt, MetadataExt, OpenOptionsExt};
 use std::path::{Path, PathBuf};
 
+use crate::kept::MOST_BYTES;
+use crate::kinds::{self, Kind};
+
 /// The name that stands for standard input.
 pub const STANDARD_INPUT: &str = "-";
 
@@ -34,6 +37,18 @@ pub fn read_at_most(path: &Path, most: usize) -> io::Result<Option<Vec<u8>>> {
         false => File::open(path)?.take(more).read_to_end(&mut bytes)?,
     };
     Ok((bytes.len() <= most).then_some(bytes))
+}
+
+/// What kind of file is there; of a file that is longer than a stored plan no more is read than
+/// tells that.
+fn kind_of(path: &Path) -> io::Result<Kind> {
+    let mut bytes = Vec::new();
+    let most = MOST_BYTES as u64 + 1;
+    File::open(path)?.take(most).read_to_end(&mut bytes)?;
+    Ok(match bytes.len() > MOST_BYTES {
+        true => kinds::of_opening(&bytes),
+        false => kinds::of(&bytes),
+    })
 }
 
 /// What a name stands for, however it is spelled.
@@ -111,6 +126,34 @@ pub struct Output<'a> {
     pub path: &'a Path,
     /// What it holds.
     pub bytes: Vec<u8>,
+    /// What that is: words are binary data.
+    pub kind: Kind,
+}
+
+impl Output<'_> {
+    /// What this may replace besides an empty file.
+    fn replaces(&self) -> &'static str {
+        match self.kind {
+            Kind::Binary => "words",
+            kind => kind.name(),
+        }
+    }
+
+    /// Why the file that is there may not be replaced; none where there is none, or it is empty or
+    /// of this kind, or no file that is replaced: a device, a pipe or a folder.
+    pub fn misfit(&self) -> Option<String> {
+        let is_file = fs::metadata(self.path).is_ok_and(|found| found.is_file());
+        let found = match is_file.then(|| kind_of(self.path))? {
+            Ok(Kind::Empty) => return None,
+            Ok(kind) if kind == self.kind => return None,
+            Ok(kind) => kind.name().to_owned(),
+            Err(error) => format!("a file that cannot be read: {error}"),
+        };
+        Some(format!(
+            "expected {} to replace, found {found}; --force replaces it",
+            self.replaces()
+        ))
+    }
 }
 
 /// A whole file under a name of its own, beside the one that it is to have.
@@ -257,8 +300,16 @@ mod tests {
 
     /// Writes one file.
     fn write(path: &Path, bytes: &[u8]) -> Result<(), (usize, io::Error)> {
-        let bytes = bytes.to_vec();
-        write_all(&[Output { path, bytes }])
+        write_all(&[output(path, bytes)])
+    }
+
+    /// An output that is words.
+    fn output<'a>(path: &'a Path, bytes: &[u8]) -> Output<'a> {
+        Output {
+            path,
+            bytes: bytes.to_vec(),
+            kind: Kind::Binary,
+        }
     }
 
     #[test]
@@ -329,11 +380,8 @@ mod tests {
         let (old, new) = (folder.join("old"), folder.join("new"));
         fs::write(&old, "as it was").unwrap();
         for first in [&old, &new] {
-            let output = |path| Output {
-                path,
-                bytes: b"text".to_vec(),
-            };
-            let failed = write_all(&[output(first), output(&folder)]).unwrap_err();
+            let outputs = [first, &folder].map(|path| output(path, b"text"));
+            let failed = write_all(&outputs).unwrap_err();
             assert_eq!(failed.0, 1);
         }
         assert_eq!(fs::read(&old).unwrap(), b"as it was");
@@ -353,6 +401,51 @@ mod tests {
         staged.iter().for_each(|(_, file)| file.clear());
         assert_eq!(fs::read(&names[0]).unwrap(), b"as it was");
         assert_eq!(fs::read_dir(&folder).unwrap().count(), 1);
+        fs::remove_dir_all(folder).unwrap();
+    }
+
+    #[test]
+    fn a_file_of_another_kind_is_not_replaced() {
+        let folder = folder("kind");
+        let path = folder.join("out");
+        let misfit = |kind| {
+            let bytes = Vec::new();
+            let path = &path;
+            Output { path, bytes, kind }.misfit()
+        };
+        let all = [Kind::Picture, Kind::StoredPlan, Kind::Binary];
+        assert_eq!(all.map(misfit), [None, None, None]);
+        fs::write(&path, "").unwrap();
+        assert_eq!(all.map(misfit), [None, None, None]);
+        fs::write(&path, "max 8\n").unwrap();
+        let found = ["a picture", "a stored plan", "words"].map(|expected| {
+            Some(format!(
+                "expected {expected} to replace, found a circuit; --force replaces it"
+            ))
+        });
+        assert_eq!(all.map(misfit), found);
+        fs::write(&path, "<svg>").unwrap();
+        assert_eq!(misfit(Kind::Picture), None);
+        assert!(misfit(Kind::StoredPlan).is_some() && misfit(Kind::Binary).is_some());
+        fs::remove_dir_all(folder).unwrap();
+    }
+
+    #[test]
+    fn a_long_file_is_told_by_its_opening() {
+        let folder = folder("long");
+        let path = folder.join("out");
+        for (opening, kind) in [
+            ("<svg>", Kind::Picture),
+            ("max 8", Kind::Circuit),
+            ("a", Kind::Text),
+        ] {
+            let text = opening.to_owned() + &" é".repeat(MOST_BYTES);
+            fs::write(&path, &text).unwrap();
+            assert_eq!(kind_of(&path).unwrap(), kind);
+        }
+        let file = File::create(&path).unwrap();
+        file.set_len(1 << 40).unwrap();
+        assert_eq!(kind_of(&path).unwrap(), Kind::Binary);
         fs::remove_dir_all(folder).unwrap();
     }
 }

@@ -13,8 +13,6 @@ mod files;
 mod json;
 mod kept;
 mod kernel_sense;
-// Used once outputs and inputs ask what a file is.
-#[allow(dead_code)]
 mod kinds;
 mod lanes;
 mod line;
@@ -48,6 +46,7 @@ use checksum::Checksum;
 use circuit::Circuit;
 use files::Output;
 use kept::Fault;
+use kinds::Kind;
 use line::{visible, Fault as BadLine};
 use list::List;
 use midvokt::Refusal;
@@ -85,9 +84,13 @@ fn read<T>(
     })
 }
 
-/// Writes all files, or says which one cannot be written.
-fn write(outputs: &[Output<'_>]) -> Result<(), String> {
+/// Writes all files, or says which one cannot be written, or may not replace what is there.
+fn write(options: &Options, outputs: &[Output<'_>]) -> Result<(), String> {
     let name = |output: &Output<'_>| visible(&output.path.to_string_lossy());
+    let misfit = |output| Some(format!("{}: {}\n", name(output), output.misfit()?));
+    if let Some(message) = outputs.iter().filter(|_| !options.force).find_map(misfit) {
+        return Err(message);
+    }
     files::write_all(outputs).map_err(|(failed, error)| {
         let mut text = format!("{}: cannot be written: {error}\n", name(&outputs[failed]));
         let others = outputs.iter().enumerate().filter(|(i, _)| *i != failed);
@@ -137,8 +140,11 @@ fn planned(options: &Options, view: &View<'_>) -> Answer {
 /// The picture that is asked for, if there is a plan.
 fn picture<'a>(options: &'a Options, view: Option<&View<'_>>) -> Option<Output<'a>> {
     let (path, view) = options.svg.as_ref().zip(view)?;
-    let bytes = svg::picture(view).into_bytes();
-    Some(Output { path, bytes })
+    Some(Output {
+        path,
+        bytes: svg::picture(view).into_bytes(),
+        kind: Kind::Picture,
+    })
 }
 
 /// The stored plan that is asked for, of a circuit that has a plan.
@@ -151,8 +157,11 @@ fn stored<'a>(
         return Ok(None);
     };
     let bytes = planning::stored(circuit);
-    let bytes = bytes.map_err(|refusal| format!("{}: {refusal}\n", visible(name)))?;
-    Ok(Some(Output { path, bytes }))
+    Ok(Some(Output {
+        path,
+        bytes: bytes.map_err(|refusal| format!("{}: {refusal}\n", visible(name)))?,
+        kind: Kind::StoredPlan,
+    }))
 }
 
 /// Plans the circuit, writes the files that are asked for, and gives what is printed.
@@ -163,6 +172,7 @@ fn show(options: &Options, path: &Path) -> Result<Answer, String> {
     let words = options.words.as_ref().map(|path| Output {
         path,
         bytes: words::encode(&circuit),
+        kind: Kind::Binary,
     });
     let svg = picture(options, view.as_ref().ok());
     let store = match view {
@@ -173,6 +183,7 @@ fn show(options: &Options, path: &Path) -> Result<Answer, String> {
         view.checksum = store.as_ref().map(|file| Checksum::of(&file.bytes));
     }
     write(
+        options,
         &[words, svg, store]
             .into_iter()
             .flatten()
@@ -216,6 +227,7 @@ fn show_stored(options: &Options, path: &Path) -> Result<Answer, String> {
     };
     view.checksum = checksum;
     write(
+        options,
         &picture(options, Some(&view))
             .into_iter()
             .collect::<Vec<_>>(),

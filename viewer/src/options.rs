@@ -15,7 +15,7 @@ pub const HELP: &str = "\
 show: plans a circuit through the proved library and shows the plan; or has the
 library optimize a list of pending operations, and shows it before and after
 
-  ./show [--json] [--svg FILE] [--words FILE] [--store FILE] [--ascii]
+  ./show [--json] [--svg FILE] [--words FILE] [--store FILE] [--force] [--ascii]
          [--columns N] CIRCUIT          or --stored FILE in place of CIRCUIT
   ./show --optimize LIST [--json] [--columns N]
 
@@ -67,6 +67,9 @@ a line a record; the components' lives as lanes; the final groups.
                 ceiling is not stored
   --stored FILE shows such a file, or by - standard input; with no circuit, no
                 --words and no --store
+  --force       an output replaces any file; else only an empty one, or one of
+                its kind: a picture, a stored plan, or for words binary data
+                that is no stored plan
   --ascii       lanes without box characters
   --columns N   the text's width, 40 to 1000; else the terminal's, or 80
   --version, -V the version
@@ -102,6 +105,8 @@ pub struct Options {
     pub words: Option<PathBuf>,
     /// Where the stored plan goes.
     pub store: Option<PathBuf>,
+    /// Whether an output replaces a file of any kind.
+    pub force: bool,
     /// Whether the plan is printed for programs.
     pub json: bool,
     /// How wide the text is and how the lanes are drawn.
@@ -142,6 +147,7 @@ struct Reader {
     stored: Option<Named>,
     optimize: Option<Named>,
     columns: Option<usize>,
+    force: bool,
     json: bool,
     ascii: bool,
 }
@@ -252,6 +258,7 @@ impl Reader {
             }
             "--help" | "-h" => return Ok(Next::Done(Request::Help)),
             "--version" | "-V" => return Ok(Next::Done(Request::Version)),
+            "--force" => self.force = true,
             "--json" => self.json = true,
             "--ascii" => self.ascii = true,
             "--" => return Ok(Next::Names),
@@ -346,6 +353,7 @@ impl Reader {
             svg: self.svg,
             words: self.words,
             store: self.store,
+            force: self.force,
             json: self.json,
             style: Style {
                 columns: columns.clamp(*COLUMNS.start(), *COLUMNS.end()),
@@ -455,7 +463,7 @@ mod tests {
         }
         assert_eq!(subject("--optimize -- --json"), "L --json");
         assert_eq!(subject("--optimize --json -"), "L -");
-        assert_eq!(subject("--stored --svg b a"), "S a");
+        assert_eq!(subject("--stored --svg b a --force"), "S a");
         assert_eq!(subject("--svg b a"), "C a");
     }
 
