@@ -1,15 +1,19 @@
 //! Reads a circuit file, a stored plan or standard input, tells whether two names are one file, and
-//! writes files so that each is whole or not there, and either all of them are written or none.
+//! writes files so that each is whole or not there, and either all of them are written or none,
+//! also where a signal ends the viewer.
 
 use std::ffi::OsString;
 use std::fs::{self, File, Metadata, OpenOptions};
 use std::io::{self, ErrorKind, IsTerminal, Read, Write};
+use std::mem;
 use std::os::fd::AsFd;
 use std::os::unix::fs::{chown, FileTypeExt, MetadataExt, OpenOptionsExt};
 use std::path::{Path, PathBuf};
+use std::sync::{Arc, Mutex, MutexGuard, PoisonError};
 
 use crate::kept::MOST_BYTES;
 use crate::kinds::{self, Kind};
+use crate::{beside, signals};
 
 /// The name that stands for standard input.
 pub const STANDARD_INPUT: &str = "-";
@@ -156,15 +160,29 @@ impl Output<'_> {
     }
 }
 
+/// The number of an output that could not be written, and why.
+type Failed = (usize, io::Error);
+
 /// A whole file under a name of its own, beside the one that it is to have.
 struct Staged {
+    /// The number of its output.
+    number: usize,
     path: PathBuf,
     part: PathBuf,
     /// Where the file that it replaces is kept until all are in place.
     old: Option<PathBuf>,
 }
 
-/// A file of the same owner, group and mode as another, or one as new files are.
+/// Gives a file that is new the owner, group and mode of another.
+fn make_like(part: &Path, file: &File, like: &Metadata) -> io::Result<()> {
+    let made = file.metadata()?;
+    if (made.uid(), made.gid()) != (like.uid(), like.gid()) {
+        chown(part, Some(like.uid()), Some(like.gid()))?;
+    }
+    file.set_permissions(like.permissions())
+}
+
+/// A new file of the same owner, group and mode as another, or one as new files are.
 fn create(part: &Path, like: Option<&Metadata>) -> io::Result<File> {
     let mut options = OpenOptions::new();
     options.write(true).create_new(true);
@@ -172,52 +190,29 @@ fn create(part: &Path, like: Option<&Metadata>) -> io::Result<File> {
         return options.open(part);
     };
     let file = options.mode(0o600).open(part)?;
-    let made = file.metadata()?;
-    if (made.uid(), made.gid()) != (like.uid(), like.gid()) {
-        chown(part, Some(like.uid()), Some(like.gid()))?;
+    match make_like(part, &file, like) {
+        Ok(()) => Ok(file),
+        Err(error) => {
+            // The first error is the one to tell.
+            let _ = fs::remove_file(part);
+            Err(error)
+        }
     }
-    file.set_permissions(like.permissions())?;
-    Ok(file)
+}
+
+/// Keeps a file under another name, which nothing may have.
+fn keep(path: &Path, old: &Path) -> io::Result<()> {
+    fs::hard_link(path, old).or_else(|error| match error.kind() {
+        ErrorKind::AlreadyExists => Err(error),
+        _ => fs::copy(path, old).map(drop),
+    })
 }
 
 impl Staged {
-    /// Writes the bytes beside the file, which must be one that may be written.
-    fn new(path: &Path, number: usize, bytes: &[u8]) -> io::Result<Self> {
-        let path = resolved(path);
-        let found = match fs::metadata(&path) {
-            Ok(found) => Some(found),
-            Err(error) if error.kind() == ErrorKind::NotFound => None,
-            Err(error) => return Err(error),
-        };
-        if found.is_some() {
-            OpenOptions::new().write(true).open(&path)?;
-        }
-        let beside = |ending: &str| {
-            let name = format!(".show-{}-{number}.{ending}", std::process::id());
-            folder_of(&path).join(name)
-        };
-        let staged = Self {
-            part: beside("part"),
-            old: found.as_ref().map(|_| beside("old")),
-            path,
-        };
-        let written = create(&staged.part, found.as_ref()).and_then(|mut file| {
-            file.write_all(bytes)?;
-            file.sync_all()
-        });
-        match written {
-            Ok(()) => Ok(staged),
-            Err(error) => {
-                staged.clear();
-                Err(error)
-            }
-        }
-    }
-
-    /// Gives the file its name, and keeps what had it.
-    fn place(&self) -> io::Result<()> {
-        if let Some(old) = &self.old {
-            fs::hard_link(&self.path, old).or_else(|_| fs::copy(&self.path, old).map(drop))?;
+    /// Gives the file its name, and keeps what had it, unless it is the last to get one.
+    fn place(&self, is_last: bool) -> io::Result<()> {
+        if let Some(old) = self.old.as_ref().filter(|_| !is_last) {
+            keep(&self.path, old)?;
         }
         fs::rename(&self.part, &self.path)
     }
@@ -240,50 +235,115 @@ impl Staged {
     }
 }
 
-/// Gives all files their names, or none. The number is that of the file that failed.
-fn place_all(staged: &[(usize, Staged)]) -> Result<(), (usize, io::Error)> {
-    for (done, (number, file)) in staged.iter().enumerate() {
-        if let Err(error) = file.place() {
-            staged[..done].iter().for_each(|(_, file)| file.undo());
-            return Err((*number, error));
-        }
-    }
-    Ok(())
-}
-
 /// Whether a path is a device or a pipe, which is written as it is.
 fn is_stream(path: &Path) -> bool {
     fs::metadata(path).is_ok_and(|found| !found.is_file() && !found.is_dir())
 }
 
-/// Writes all files beside their places, and what goes to devices and pipes.
-fn stage_all(
-    outputs: &[Output<'_>],
-    staged: &mut Vec<(usize, Staged)>,
-) -> Result<(), (usize, io::Error)> {
-    let (streams, files): (Vec<_>, Vec<_>) = outputs
-        .iter()
-        .enumerate()
-        .partition(|(_, output)| is_stream(output.path));
-    for (number, output) in files {
-        let file = Staged::new(output.path, number, &output.bytes);
-        staged.push((number, file.map_err(|error| (number, error))?));
-    }
-    for (number, output) in streams {
-        let opened = OpenOptions::new().write(true).open(output.path);
-        opened
-            .and_then(|mut stream| stream.write_all(&output.bytes))
-            .map_err(|error| (number, error))?;
-    }
-    Ok(())
+/// Writes to a device or a pipe.
+fn pour(output: &Output<'_>) -> io::Result<()> {
+    let mut stream = OpenOptions::new().write(true).open(output.path)?;
+    stream.write_all(&output.bytes)
 }
 
-/// Writes all files or none. The number is that of the file that could not be written.
-pub fn write_all(outputs: &[Output<'_>]) -> Result<(), (usize, io::Error)> {
-    let mut staged = Vec::new();
-    let written = stage_all(outputs, &mut staged).and_then(|()| place_all(&staged));
-    staged.iter().for_each(|(_, file)| file.clear());
-    written
+/// The files that are being written, of which all that stands beside others is known. Nothing is
+/// put there, and no file gets its name, but by who holds them.
+#[derive(Default)]
+struct Writing(Mutex<Vec<Staged>>);
+
+impl Writing {
+    /// Holds the files.
+    fn hold(&self) -> MutexGuard<'_, Vec<Staged>> {
+        self.0.lock().unwrap_or_else(PoisonError::into_inner)
+    }
+
+    /// Makes an empty file beside one that is replaced, which must be one that may be written, or
+    /// is not there yet.
+    fn begin(&self, path: &Path, number: usize) -> io::Result<File> {
+        let path = resolved(path);
+        let found = match fs::metadata(&path) {
+            Ok(found) => Some(found),
+            Err(error) if error.kind() == ErrorKind::NotFound => None,
+            Err(error) => return Err(error),
+        };
+        if found.is_some() {
+            OpenOptions::new().write(true).open(&path)?;
+        }
+        let mut staged = self.hold();
+        let (part, old) = beside::free(folder_of(&path));
+        let file = create(&part, found.as_ref())?;
+        staged.push(Staged {
+            number,
+            old: found.map(|_| old),
+            path,
+            part,
+        });
+        Ok(file)
+    }
+
+    /// Writes a file beside its place.
+    fn stage(&self, output: &Output<'_>, number: usize) -> io::Result<()> {
+        let mut file = self.begin(output.path, number)?;
+        file.write_all(&output.bytes)?;
+        file.sync_all()
+    }
+
+    /// Writes all files beside their places, and what goes to devices and pipes.
+    fn stage_all(&self, outputs: &[Output<'_>]) -> Result<(), Failed> {
+        let numbered = outputs.iter().enumerate();
+        let (streams, files): (Vec<_>, Vec<_>) =
+            numbered.partition(|(_, output)| is_stream(output.path));
+        let folders = files.iter().map(|(_, output)| resolved(output.path));
+        folders.for_each(|path| beside::sweep(folder_of(&path)));
+        files.into_iter().try_for_each(|(number, output)| {
+            self.stage(output, number).map_err(|error| (number, error))
+        })?;
+        streams
+            .into_iter()
+            .try_for_each(|(number, output)| pour(output).map_err(|error| (number, error)))
+    }
+
+    /// Gives all files their names, or none.
+    fn place_all(&self) -> Result<(), Failed> {
+        let staged = self.hold();
+        for (done, file) in staged.iter().enumerate() {
+            if let Err(error) = file.place(done + 1 == staged.len()) {
+                staged[..done].iter().for_each(Staged::undo);
+                return Err((file.number, error));
+            }
+        }
+        Ok(())
+    }
+
+    /// Removes what stands beside the files.
+    fn clear(&self) {
+        self.hold().drain(..).for_each(|file| file.clear());
+    }
+
+    /// Removes what stands beside the files and holds them for ever, so that none gets its name.
+    fn abandon(&self) {
+        let mut staged = self.hold();
+        staged.drain(..).for_each(|file| file.clear());
+        mem::forget(staged);
+    }
+
+    /// Writes all files or none.
+    fn write_all(&self, outputs: &[Output<'_>]) -> Result<(), Failed> {
+        let written = self.stage_all(outputs).and_then(|()| self.place_all());
+        self.clear();
+        written
+    }
+}
+
+/// Writes all files or none, also where a signal ends the viewer.
+pub fn write_all(outputs: &[Output<'_>]) -> Result<(), Failed> {
+    if outputs.is_empty() {
+        return Ok(());
+    }
+    let writing = Arc::new(Writing::default());
+    let held = Arc::clone(&writing);
+    signals::before_end(move || held.abandon());
+    writing.write_all(outputs)
 }
 
 #[cfg(test)]
@@ -299,8 +359,8 @@ mod tests {
     }
 
     /// Writes one file.
-    fn write(path: &Path, bytes: &[u8]) -> Result<(), (usize, io::Error)> {
-        write_all(&[output(path, bytes)])
+    fn write(path: &Path, bytes: &[u8]) -> Result<(), Failed> {
+        Writing::default().write_all(&[output(path, bytes)])
     }
 
     /// An output that is words.
@@ -381,7 +441,7 @@ mod tests {
         fs::write(&old, "as it was").unwrap();
         for first in [&old, &new] {
             let outputs = [first, &folder].map(|path| output(path, b"text"));
-            let failed = write_all(&outputs).unwrap_err();
+            let failed = Writing::default().write_all(&outputs).unwrap_err();
             assert_eq!(failed.0, 1);
         }
         assert_eq!(fs::read(&old).unwrap(), b"as it was");
@@ -394,13 +454,41 @@ mod tests {
         let folder = folder("undone");
         let names = ["old", "new", "lost"].map(|name| folder.join(name));
         fs::write(&names[0], "as it was").unwrap();
-        let stage = |number: usize| Staged::new(&names[number], number, b"text").unwrap();
-        let staged = [0, 1, 2].map(|number| (number, stage(number)));
-        fs::remove_file(&staged[2].1.part).unwrap();
-        assert_eq!(place_all(&staged).unwrap_err().0, 2);
-        staged.iter().for_each(|(_, file)| file.clear());
+        let writing = Writing::default();
+        let outputs = names.each_ref().map(|path| output(path, b"text"));
+        writing.stage_all(&outputs).unwrap();
+        let part = writing.hold()[2].part.clone();
+        fs::remove_file(part).unwrap();
+        assert_eq!(writing.place_all().unwrap_err().0, 2);
+        writing.clear();
         assert_eq!(fs::read(&names[0]).unwrap(), b"as it was");
         assert_eq!(fs::read_dir(&folder).unwrap().count(), 1);
+        fs::remove_dir_all(folder).unwrap();
+    }
+
+    #[test]
+    fn what_is_abandoned_leaves_nothing_and_stays_held() {
+        let folder = folder("abandoned");
+        let path = folder.join("out");
+        fs::write(&path, "as it was").unwrap();
+        let writing = Writing::default();
+        writing.stage_all(&[output(&path, b"text")]).unwrap();
+        assert_eq!(fs::read_dir(&folder).unwrap().count(), 2);
+        writing.abandon();
+        assert!(writing.0.try_lock().is_err());
+        assert_eq!(fs::read(&path).unwrap(), b"as it was");
+        assert_eq!(fs::read_dir(&folder).unwrap().count(), 1);
+        fs::remove_dir_all(folder).unwrap();
+    }
+
+    #[test]
+    fn a_name_that_is_taken_is_not_copied_over() {
+        let folder = folder("taken");
+        let (path, old) = (folder.join("out"), folder.join("old"));
+        fs::write(&path, "as it was").unwrap();
+        fs::hard_link(&path, &old).unwrap();
+        assert!(keep(&path, &old).is_err());
+        assert_eq!(fs::read(&path).unwrap(), b"as it was");
         fs::remove_dir_all(folder).unwrap();
     }
 

@@ -4,6 +4,7 @@
 //! nothing in here plans or optimizes.
 
 mod angle;
+mod beside;
 mod checksum;
 mod choice;
 mod circuit;
@@ -28,6 +29,7 @@ mod places;
 mod planning;
 mod sense;
 mod shapes;
+mod signals;
 mod sources;
 mod svg;
 mod symbols;
