@@ -49,8 +49,8 @@ fn is_left(entry: &DirEntry) -> bool {
     is_file && process.is_some_and(|process| process > 0 && signals::is_gone(process))
 }
 
-/// Removes from a folder what processes that are gone left there, as far as that can be. A file that
-/// was kept is not missed under its own name: a whole one takes that in a single step.
+/// Removes from a folder what processes that are gone left there, as far as that can be. A file
+/// that was kept is not missed under its own name: a whole one takes that in a single step.
 pub fn sweep(folder: &Path) {
     let entries = fs::read_dir(folder).into_iter().flatten();
     let left = entries.map_while(Result::ok).filter(is_left);
