@@ -43,15 +43,19 @@ pub fn read_at_most(path: &Path, most: usize) -> io::Result<Option<Vec<u8>>> {
     Ok((bytes.len() <= most).then_some(bytes))
 }
 
-/// What kind of file is there; of a file that is longer than a stored plan no more is read than
-/// tells that.
+/// What kind of file is there, text in any encoding told as text; of a file that is longer than a
+/// stored plan no more is read than tells that.
 fn kind_of(path: &Path) -> io::Result<Kind> {
     let mut bytes = Vec::new();
     let most = MOST_BYTES as u64 + 1;
     File::open(path)?.take(most).read_to_end(&mut bytes)?;
-    Ok(match bytes.len() > MOST_BYTES {
+    let kind = match bytes.len() > MOST_BYTES {
         true => kinds::of_opening(&bytes),
         false => kinds::of(&bytes),
+    };
+    Ok(match kind {
+        Kind::Binary if kinds::may_be_text(&bytes) => Kind::Text,
+        kind => kind,
     })
 }
 

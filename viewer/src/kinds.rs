@@ -124,6 +124,13 @@ fn of_other(bytes: &[u8]) -> Kind {
     }
 }
 
+/// Whether binary data may be text in another encoding: no byte is a control character but white
+/// space and the escape character.
+pub fn may_be_text(bytes: &[u8]) -> bool {
+    let may_be = |&byte: &u8| !byte.is_ascii_control() || matches!(byte, 0x09..=0x0d | 0x1b);
+    bytes.iter().all(may_be)
+}
+
 /// What a file with these bytes is.
 pub fn of(bytes: &[u8]) -> Kind {
     match bytes {
@@ -227,6 +234,16 @@ mod tests {
         assert_eq!(of_length(TRAILER_WORDS * 8 + 1), Kind::Binary);
         assert_eq!(of_length(MOST_BYTES), Kind::StoredPlan);
         assert_eq!(of_length(MOST_BYTES + 8), Kind::Binary);
+    }
+
+    #[test]
+    fn text_of_another_encoding_may_be_told() {
+        assert!(may_be_text(b"initial 3 # caf\xe9\r\n\tmax 8\n\x1b[0m"));
+        for control in [0, 1, 8, 0x0e, 0x1a, 0x1c, 0x1f, 0x7f] {
+            assert!(!may_be_text(&[b'a', control, 0xe9]), "{control}");
+        }
+        let words = words::encode(&circuit::parse(b"initial 3\nmax 8").unwrap());
+        assert!(!may_be_text(&words));
     }
 
     #[test]

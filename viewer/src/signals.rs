@@ -72,6 +72,16 @@ fn is_ignored(signal: c_int) -> bool {
     answer == 0 && found.action == IGNORED
 }
 
+/// Those signals that would end the viewer: neither ignored nor blocked.
+fn ending() -> Signals {
+    let mut blocked = Signals::default();
+    // SAFETY: no set is given, and the one that is written lives through the call.
+    unsafe { pthread_sigmask(BLOCK, ptr::null(), &mut blocked) };
+    let mut signals = Signals::of(ENDING.into_iter().filter(|&signal| !is_ignored(signal)));
+    signals.0[0] &= !blocked.0[0];
+    signals
+}
+
 /// Ends the viewer by a signal, as if it had not been blocked.
 fn end_by(signal: c_int) -> ! {
     Signals::of([signal].into_iter()).mask(UNBLOCK);
@@ -82,9 +92,10 @@ fn end_by(signal: c_int) -> ! {
 }
 
 /// Has something done before a signal ends the viewer, in a thread that waits for one. Signals
-/// that are ignored stay so. Where no thread can be started, a signal ends the viewer at once.
+/// that are ignored or blocked stay so. Where no thread can be started, a signal ends the viewer at
+/// once.
 pub fn before_end(tidy: impl FnOnce() + Send + 'static) {
-    let signals = Signals::of(ENDING.into_iter().filter(|&signal| !is_ignored(signal)));
+    let signals = ending();
     signals.mask(BLOCK);
     let waiting = move || {
         let signal = signals.next();
