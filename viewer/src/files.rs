@@ -471,6 +471,25 @@ mod tests {
     }
 
     #[test]
+    fn the_last_file_in_place_has_none_kept() {
+        let folder = folder("last");
+        let names = ["first", "last"].map(|name| folder.join(name));
+        for path in &names {
+            fs::write(path, "old").unwrap();
+        }
+        let writing = Writing::default();
+        let outputs = names.each_ref().map(|path| output(path, b"text"));
+        writing.stage_all(&outputs).unwrap();
+        writing.place_all().unwrap();
+        let kept = |staged: &Staged| staged.old.as_ref().is_some_and(|old| old.exists());
+        let kept: Vec<_> = writing.hold().iter().map(kept).collect();
+        assert_eq!(kept, [true, false]);
+        writing.clear();
+        assert_eq!(fs::read_dir(&folder).unwrap().count(), 2);
+        fs::remove_dir_all(folder).unwrap();
+    }
+
+    #[test]
     fn what_is_abandoned_leaves_nothing_and_stays_held() {
         let folder = folder("abandoned");
         let path = folder.join("out");

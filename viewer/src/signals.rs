@@ -92,8 +92,8 @@ fn end_by(signal: c_int) -> ! {
 }
 
 /// Has something done before a signal ends the viewer, in a thread that waits for one. Signals
-/// that are ignored or blocked stay so. Where no thread can be started, a signal ends the viewer at
-/// once.
+/// that are ignored or blocked stay so. Where no thread can be started, a signal ends the viewer
+/// at once.
 pub fn before_end(tidy: impl FnOnce() + Send + 'static) {
     let signals = ending();
     signals.mask(BLOCK);
