@@ -207,6 +207,12 @@ fn shown(word: &OsStr) -> String {
     quoted(&word.to_string_lossy())
 }
 
+/// What is said of an option that there is not.
+fn unknown(word: &OsStr) -> String {
+    let found = shown(word);
+    format!("expected an option that --help tells, found {found}")
+}
+
 /// Puts a value where none may stand yet.
 fn once<T>(place: &mut Option<T>, name: &str, value: T) -> Result<(), String> {
     match place.replace(value) {
@@ -263,10 +269,7 @@ impl Reader {
             "--ascii" => self.ascii = true,
             "--" => return Ok(Next::Names),
             _ if name.starts_with('-') && name != STANDARD_INPUT => {
-                return Err(format!(
-                    "expected an option that --help tells, found {}",
-                    shown(&word)
-                ));
+                return Err(unknown(&word));
             }
             _ => self.name(word)?,
         }
