@@ -411,6 +411,12 @@ pub fn encode_operations(width: usize, operations: &[PendingOperation]) -> Optio
 /// it across a preserved prefix. A prefix is a number of operations; they may come in any order,
 /// and repeated.
 ///
+/// A fused rotation stands where the later one did. Its angle is the later one's plus the earlier
+/// one's, or less it where their signs are opposite, a minus in the phase counted too.
+///
+/// A list has at most 1,024 operations and at most 1,024 prefixes, angles are from -2^20 to 2^20,
+/// and a sign has at most 8 conditions, strictly ascending, from 1 on.
+///
 /// An operation that no words say, or whose string has another width, is refused with
 /// [`Reason::Form`], as the library refuses, before all else, a list that is not of its form.
 pub fn optimize(
