@@ -52,10 +52,14 @@ impl ActivePauli {
     /// A sign may stand in front: `+`, `-`, `i`, `+i` or `-i`. Behind it is a letter for each
     /// active coordinate, position 0 first: X, Y, Z, and I or _ where nothing acts. Or it is a
     /// product of letters X, Y, Z and I with positions, `*` between them: each position below the
-    /// width and once, decimal, or with `0x` or `0b` in front. So `X_Z`, `XIZ` and `X0*Z2` are one
-    /// Pauli over three coordinates. Letters are capitals, and there is no space.
+    /// width and once, decimal, or with `0x` or `0b` in front, so that `X0x1` is X at position 1. So
+    /// `X_Z`, `XIZ` and `X0*Z2` are one Pauli over three coordinates. Letters are capitals, and there
+    /// is no space.
     ///
-    /// In the phase `-` counts 2, `i` 1, and each Y 1.
+    /// In the phase `-` counts 2, `i` 1, and each Y 1. So with an `i` in front the Pauli is not
+    /// Hermitian. Planning refuses that only for a measurement without an x bit
+    /// ([`Reason::Eigenvalues`](crate::Reason::Eigenvalues), number 19); else it plans it as it
+    /// stands. Planning refuses a width above 62 too ([`Reason::Width`](crate::Reason::Width)).
     pub fn from_text(width: u64, text: &str) -> Result<Self, PauliError> {
         let (phase, start) = sign(text);
         let mut pauli = Self {
@@ -276,7 +280,8 @@ pub enum PauliFault {
     },
     /// A part of a product that does not begin with X, Y, Z or I.
     Factor,
-    /// A letter of a product without a position.
+    /// A letter of a product without a position, which is a whole number up to the next `*` or the
+    /// end. So `X0X1` and `X0 Z1` have this fault, at the byte behind the letter.
     Number,
     /// A position that is not below the width.
     Position {
@@ -323,7 +328,7 @@ impl fmt::Display for PauliFault {
                 return write!(formatter, "expected a position below {width}");
             }
             Self::Factor => "expected a factor such as X0 (X, Y, Z or I, then a position)",
-            Self::Number => "expected a position",
+            Self::Number => "expected a position (a whole number up to the next * or the end)",
             Self::Repeated => "expected each position once",
             Self::MaskBit => {
                 "expected nothing to act at position 64 or above, since a mask has 64 bits"
@@ -447,6 +452,8 @@ mod tests {
             "X0*Z0b2",
             "X0*Z1 ",
             "X0*ZZ1",
+            "X0*Z1X2",
+            "X0*Z1 * Y2",
             "X0*Z\u{e4}",
         ] {
             assert_eq!(wrong(3, text), (PauliFault::Number, 4), "{text}");
@@ -505,7 +512,11 @@ mod tests {
                 "byte 3 of the Pauli: expected a factor such as X0 (X, Y, Z or I, then a \
                  position)",
             ),
-            (told(2, "X0*Y"), "byte 4 of the Pauli: expected a position"),
+            (
+                told(2, "X0 Z1"),
+                "byte 1 of the Pauli: expected a position (a whole number up to the next * or the \
+                 end)",
+            ),
             (
                 told(2, "X2"),
                 "byte 1 of the Pauli: expected a position below 2",
