@@ -83,7 +83,9 @@ pub struct Sections<'a> {
 }
 
 impl<'a> From<[&'a mut [u64]; 6]> for Sections<'a> {
-    /// Six slices in the order of the outputs.
+    /// Six slices in this order: steps, merges, sizes, rotations, promotions, measurements. They
+    /// have to be of variables that live as long: a `&mut [0; 2]` written in the call does not,
+    /// while one written in the struct of a `let` does.
     fn from(words: [&'a mut [u64]; 6]) -> Self {
         let [steps, merges, sizes, rotations, promotions, measurements] = words;
         Self {
@@ -139,7 +141,29 @@ pub struct Buffers<'a> {
 }
 
 impl<'a> From<[&'a mut [u64]; 7]> for Buffers<'a> {
-    /// Seven slices in the order of the buffers.
+    /// Seven slices in this order: steps, merges, sizes, rotations, promotions, measurements, groups.
+    /// They have to be of variables that live as long, as those of [`Sections`] have to:
+    ///
+    /// ```
+    /// use midvokt::{Buffers, Lengths};
+    ///
+    /// const LENGTHS: Lengths = Lengths::for_records(1);
+    /// let (mut steps, mut merges) = ([0; LENGTHS.steps], [0; LENGTHS.merges]);
+    /// let (mut sizes, mut groups) = ([0; LENGTHS.sizes], [0; LENGTHS.groups]);
+    /// let mut rows = [0; LENGTHS.rotations + LENGTHS.promotions + LENGTHS.measurements];
+    /// let (rotations, rest) = rows.split_at_mut(LENGTHS.rotations);
+    /// let (promotions, measurements) = rest.split_at_mut(LENGTHS.promotions);
+    /// let buffers = Buffers::from([
+    ///     &mut steps[..],
+    ///     &mut merges,
+    ///     &mut sizes,
+    ///     rotations,
+    ///     promotions,
+    ///     measurements,
+    ///     &mut groups,
+    /// ]);
+    /// assert_eq!(buffers.step(1), None);
+    /// ```
     fn from(words: [&'a mut [u64]; 7]) -> Self {
         let [sections @ .., groups] = words;
         Self {

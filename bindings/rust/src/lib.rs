@@ -248,6 +248,11 @@
 //! * `num-complex`: [`Complex`] is the `Complex64` of the crate num-complex 0.4, the only
 //!   dependency there is.
 //!
+//! A library without std depends on this crate with `default-features = false` and needs nothing
+//! more. A program without std brings a panic handler, `panic = "abort"` in its profiles, a C
+//! library to link and, with today's stable toolchain on x86-64 Linux, `rust_eh_personality`;
+//! `tests/bare/plan.rs` is one.
+//!
 //! Without `alloc`:
 //!
 //! ```
