@@ -24,11 +24,13 @@ pub struct Head {
     /// the records. Below 8 no record is read and the plan is empty: give 8, as [`Head::new`] does,
     /// to have the rows of a small circuit. The ceiling or more is refused.
     pub max_k: u64,
-    /// The number of expectation values; other than 0, no record is read and the plan is empty.
+    /// The number of expectation values. While it is 0, expectations
+    /// ([`Record::expectation`](crate::Record::expectation)) are passed over. Where it is more, no
+    /// record is read and the plan is empty ([`Head::leaves_unread`]).
     pub nexpvals: u64,
     /// The controller holds components of fewer coordinates than this. It is 1 to 62
-    /// ([`LARGEST_CEILING`]); any other is refused with number 24, before all else. The circuits of
-    /// document 01 have 62. Below 9 no record is read, since `max_k` then has to be below 8.
+    /// ([`LARGEST_CEILING`]); any other is refused with number 24, before all else. Below 9 no
+    /// record is read, since `max_k` then has to be below 8.
     pub ceiling: u64,
 }
 
@@ -48,11 +50,16 @@ impl Default for Head {
 
 impl Head {
     /// A head of so many coordinates at the start: `max_k` is as many, but at least 8, so that a
-    /// small circuit is planned too; no expectation value, and the largest ceiling.
+    /// small circuit is planned too; no expectation value, and the largest ceiling. With fewer than
+    /// 8 coordinates the dense peak is 2^8 = 256, and the choice ([`Summary::selected`]) counts with
+    /// that.
     ///
     /// `max_k` gives the dense peak, so where promotions make the register wider give it yourself:
-    /// `Head { max_k: 12, ..Head::new(3) }`. Do so from 62 coordinates on too: a `max_k` of the
-    /// ceiling or more is refused ([`Reason::MaxK`]). Nothing is judged here.
+    /// `Head { max_k: 12, ..Head::new(3) }`.
+    ///
+    /// Rotations and measurements are planned only while at most 62 coordinates are active. With 62
+    /// give a `max_k` of 61, `Head { max_k: 61, ..Head::new(62) }`: one of the ceiling or more is
+    /// refused ([`Reason::MaxK`]). Nothing is judged here.
     pub const fn new(initial_k: u64) -> Self {
         Self {
             initial_k,

@@ -100,7 +100,9 @@ impl Record {
         })
     }
 
-    /// An expectation, which leaves the register as it is.
+    /// An expectation, which leaves the register as it is. It is passed over while the head's
+    /// `nexpvals` is 0; where that is more no record is read
+    /// ([`Head::leaves_unread`](crate::Head::leaves_unread)).
     pub fn expectation() -> Self {
         Self::ActiveMeasurement(ActiveMeasurement {
             width: 0,
