@@ -20,7 +20,8 @@ pub const MOST_RECORDS: usize = 1024;
 /// compared with the angle.
 #[derive(Clone, Copy, Debug, PartialEq)]
 pub struct Rotation {
-    /// The number of active coordinates.
+    /// The number of coordinates that are active before it: one more after a promotion, one less
+    /// after a measurement. Another is refused.
     pub width: u64,
     /// The x mask; bits at or above the width count for nothing.
     pub x: u64,
@@ -40,7 +41,8 @@ pub struct Rotation {
 /// has it: Y0 is x = 1, z = 1, phase = 1.
 #[derive(Clone, Copy, Debug, PartialEq, Eq)]
 pub struct ActiveMeasurement {
-    /// The number of active coordinates.
+    /// The number of coordinates that are active before it: one more after a promotion, one less
+    /// after a measurement. Another is refused.
     pub width: u64,
     /// The x mask; bits at or above the width count for nothing.
     pub x: u64,
