@@ -212,7 +212,8 @@ impl Reason {
 }
 
 /// Why there is no plan, no file or no optimized list, and where it stopped. All buffers are zero
-/// after it.
+/// after it. Print it with `{}` to have the sentence; a `main` that gives it with `?` prints the
+/// Debug form.
 #[derive(Clone, Copy, Debug, PartialEq, Eq, Hash)]
 pub struct Refusal {
     /// Why the call was refused.
