@@ -50,16 +50,16 @@ impl Default for Head {
 
 impl Head {
     /// A head of so many coordinates at the start: `max_k` is as many, but at least 8, so that a
-    /// small circuit is planned too; no expectation value, and the largest ceiling. With fewer than
-    /// 8 coordinates the dense peak is 2^8 = 256, and the choice ([`Summary::selected`]) counts with
-    /// that.
+    /// small circuit is planned too; no expectation value, and the largest ceiling. With fewer
+    /// than 8 coordinates the dense peak is 2^8 = 256, and the choice ([`Summary::selected`])
+    /// counts with that.
     ///
     /// `max_k` gives the dense peak, so where promotions make the register wider give it yourself:
     /// `Head { max_k: 12, ..Head::new(3) }`.
     ///
-    /// Rotations and measurements are planned only while at most 62 coordinates are active. With 62
-    /// give a `max_k` of 61, `Head { max_k: 61, ..Head::new(62) }`: one of the ceiling or more is
-    /// refused ([`Reason::MaxK`]). Nothing is judged here.
+    /// Rotations and measurements are planned only while at most 62 coordinates are active. With
+    /// 62 give a `max_k` of 61, `Head { max_k: 61, ..Head::new(62) }`: one of the ceiling or more
+    /// is refused ([`Reason::MaxK`]). Nothing is judged here.
     pub const fn new(initial_k: u64) -> Self {
         Self {
             initial_k,

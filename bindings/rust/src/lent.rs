@@ -141,8 +141,8 @@ pub struct Buffers<'a> {
 }
 
 impl<'a> From<[&'a mut [u64]; 7]> for Buffers<'a> {
-    /// Seven slices in this order: steps, merges, sizes, rotations, promotions, measurements, groups.
-    /// They have to be of variables that live as long, as those of [`Sections`] have to:
+    /// Seven slices in this order: steps, merges, sizes, rotations, promotions, measurements,
+    /// groups. They have to be of variables that live as long, as those of [`Sections`] have to:
     ///
     /// ```
     /// use midvokt::{Buffers, Lengths};

@@ -52,9 +52,9 @@ impl ActivePauli {
     /// A sign may stand in front: `+`, `-`, `i`, `+i` or `-i`. Behind it is a letter for each
     /// active coordinate, position 0 first: X, Y, Z, and I or _ where nothing acts. Or it is a
     /// product of letters X, Y, Z and I with positions, `*` between them: each position below the
-    /// width and once, decimal, or with `0x` or `0b` in front, so that `X0x1` is X at position 1. So
-    /// `X_Z`, `XIZ` and `X0*Z2` are one Pauli over three coordinates. Letters are capitals, and there
-    /// is no space.
+    /// width and once, decimal, or with `0x` or `0b` in front, so that `X0x1` is X at position 1.
+    /// So `X_Z`, `XIZ` and `X0*Z2` are one Pauli over three coordinates. Letters are capitals, and
+    /// there is no space.
     ///
     /// In the phase `-` counts 2, `i` 1, and each Y 1. So with an `i` in front the Pauli is not
     /// Hermitian. Planning refuses that only for a measurement without an x bit
