@@ -57,9 +57,9 @@ impl Head {
     /// `max_k` gives the dense peak, so where promotions make the register wider give it yourself:
     /// `Head { max_k: 12, ..Head::new(3) }`.
     ///
-    /// Rotations and measurements are planned only while at most 62 coordinates are active. With
-    /// 62 give a `max_k` of 61, `Head { max_k: 61, ..Head::new(62) }`: one of the ceiling or more
-    /// is refused ([`Reason::MaxK`]). Nothing is judged here.
+    /// Rotations and measurements are planned only while at most 62 coordinates are active. From
+    /// 62 on give a `max_k` of 61, `Head { max_k: 61, ..Head::new(62) }`: one of the ceiling or
+    /// more is refused ([`Reason::MaxK`]). Nothing is judged here.
     pub const fn new(initial_k: u64) -> Self {
         Self {
             initial_k,
