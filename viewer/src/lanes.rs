@@ -3,6 +3,7 @@
 
 use crate::figures;
 use crate::lives::{Deed, End, Event, Life, Replay};
+use crate::parts::Part;
 
 /// How the picture is drawn.
 pub struct Style {
@@ -46,39 +47,6 @@ const ASCII: Marks = Marks {
     between: 'J',
     lower: 'J',
 };
-
-/// A part of the picture: some events, and how many characters each has.
-struct Part<'a> {
-    events: &'a [Event],
-    pitch: usize,
-    is_first: bool,
-    is_last: bool,
-}
-
-impl Part<'_> {
-    /// Whether an event of the part names the component.
-    fn names(&self, component: usize) -> bool {
-        self.events
-            .iter()
-            .any(|event| event.component == component || event.joined.contains(&component))
-    }
-
-    /// Whether the component lives at some time in the part.
-    fn holds(&self, component: usize, life: &Life) -> bool {
-        let (Some(first), Some(last)) = (self.events.first(), self.events.last()) else {
-            return true;
-        };
-        self.names(component) || life.before(first.record) || life.after(last.record)
-    }
-
-    /// Whether the component's end, or the end of the picture, is in the part.
-    fn ends(&self, life: &Life) -> bool {
-        match (life.end.record(), self.events.last()) {
-            (Some(end), Some(last)) => end <= last.record,
-            _ => self.is_last,
-        }
-    }
-}
 
 /// How a component ends, in few words.
 fn fate(life: &Life) -> String {
@@ -126,14 +94,10 @@ fn cell(event: &Event, component: usize, life: &Life, marks: &Marks) -> char {
     }
 }
 
-/// A component's row.
-fn row(part: &Part<'_>, component: usize, life: &Life, marks: &Marks) -> String {
-    let lives_first = match part.events.first() {
-        Some(event) => life.before(event.record),
-        None => true,
-    };
+/// A component's row, in which each event has so many characters.
+fn row(part: &Part<'_>, pitch: usize, component: usize, life: &Life, marks: &Marks) -> String {
     let mut text = String::new();
-    text.push(match lives_first {
+    text.push(match part.enters(life) {
         true if part.is_first => marks.start,
         true => marks.lane,
         false => ' ',
@@ -145,7 +109,7 @@ fn row(part: &Part<'_>, component: usize, life: &Life, marks: &Marks) -> String 
         } else {
             ' '
         };
-        text.extend((1..part.pitch).map(|_| filler));
+        text.extend((1..pitch).map(|_| filler));
     }
     let goes_on = life.end == End::Lives && part.is_last;
     text.push(if goes_on { '>' } else { ' ' });
@@ -153,7 +117,7 @@ fn row(part: &Part<'_>, component: usize, life: &Life, marks: &Marks) -> String 
 }
 
 /// The records' numbers, read downwards.
-fn numbers(part: &Part<'_>, indent: usize) -> String {
+fn numbers(part: &Part<'_>, pitch: usize, indent: usize) -> String {
     let last = part.events.last();
     let digits = last.map_or(0, |event| event.record.to_string().len());
     let mut text = String::new();
@@ -162,7 +126,7 @@ fn numbers(part: &Part<'_>, indent: usize) -> String {
         for event in part.events {
             let number = format!("{:>digits$}", event.record);
             line.push_str(&number[place..=place]);
-            line.push_str(&" ".repeat(part.pitch - 1));
+            line.push_str(&" ".repeat(pitch - 1));
         }
         text.push_str(line.trim_end());
         text.push('\n');
@@ -171,25 +135,18 @@ fn numbers(part: &Part<'_>, indent: usize) -> String {
 }
 
 /// One part: numbers, rows, and who goes through it without an event.
-fn draw(part: &Part<'_>, replay: &Replay, marks: &Marks, columns: usize) -> String {
+fn draw(part: &Part<'_>, pitch: usize, replay: &Replay, marks: &Marks, columns: usize) -> String {
     let label = replay.lives.len().saturating_sub(1).to_string().len();
-    let is_whole = part.is_first && part.is_last;
-    let mut text = numbers(part, label + 4);
-    let mut quiet = Vec::new();
-    for (component, life) in replay.lives.iter().enumerate() {
-        if !part.holds(component, life) {
-            continue;
-        }
-        if !is_whole && !part.names(component) {
-            quiet.push(component);
-            continue;
-        }
+    let mut text = numbers(part, pitch, label + 4);
+    let (drawn, quiet) = part.components(replay);
+    for component in drawn {
+        let life = &replay.lives[component];
         let fate = if part.ends(life) {
             fate(life)
         } else {
             String::new()
         };
-        let row = row(part, component, life, marks);
+        let row = row(part, pitch, component, life, marks);
         let line = format!("  {component:>label$} {row} {fate}");
         text.push_str(line.trim_end());
         text.push('\n');
@@ -259,16 +216,8 @@ pub fn picture(replay: &Replay, style: &Style) -> String {
     let (most, pitch) = layout(replay, style);
     let heading = "a row each; a column a record that concerns one, number downwards";
     let mut text = figures::wrapped("Components: ", heading, style.columns);
-    let parts = replay.events.len().div_ceil(most).max(1);
-    for number in 0..parts {
-        let end = ((number + 1) * most).min(replay.events.len());
-        let part = Part {
-            events: &replay.events[(number * most).min(end)..end],
-            pitch,
-            is_first: number == 0,
-            is_last: number + 1 == parts,
-        };
-        text.push_str(&draw(&part, replay, marks, style.columns));
+    for part in Part::all(&replay.events, most) {
+        text.push_str(&draw(&part, pitch, replay, marks, style.columns));
         text.push('\n');
     }
     text + &legend(marks, style.columns)

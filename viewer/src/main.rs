@@ -24,6 +24,7 @@ mod lives;
 mod notes;
 mod optimizing;
 mod options;
+mod parts;
 mod pauli;
 mod places;
 mod planning;
