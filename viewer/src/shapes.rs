@@ -57,6 +57,57 @@ pub fn line(path: &str, colour: &str, width: f64) -> String {
     format!("<path d=\"{path}\" {}/>", stroke(colour, width))
 }
 
+/// The text of a picture in the making.
+#[derive(Default)]
+pub struct Sheet(String);
+
+impl Sheet {
+    /// Adds a line.
+    pub fn add(&mut self, line: &str) {
+        self.0.push_str(line);
+        self.0.push('\n');
+    }
+
+    /// Adds words at a place.
+    pub fn words(&mut self, (x, y): (f64, f64), more: &str, words: &str) {
+        let words = escaped(words);
+        self.add(&format!(
+            "<text x=\"{x:.1}\" y=\"{y:.1}\" {more}>{words}</text>"
+        ));
+    }
+
+    /// Adds words of less weight, of this size, at a place.
+    pub fn grey_words(&mut self, place: (f64, f64), font: f64, anchor: &str, words: &str) {
+        let more = format!("fill=\"{GREY}\" font-size=\"{font:.1}\" text-anchor=\"{anchor}\"");
+        self.words(place, &more, words);
+    }
+
+    /// Adds a number on white, so that lines behind it do not hide it.
+    pub fn number(&mut self, (x, base): (f64, f64), font: f64, anchor: &str, number: usize) {
+        let number = number.to_string();
+        let width = font * 0.6 * number.len() as f64 + 2.0;
+        let left = match anchor {
+            "end" => x - width + 1.0,
+            _ => x - width * 0.5,
+        };
+        self.white((left, base - font * 0.8), (width, font * 0.9));
+        self.grey_words((x, base), font, anchor, &number);
+    }
+
+    /// Adds a white area, by its corner and its size.
+    pub fn white(&mut self, (left, top): (f64, f64), (width, height): (f64, f64)) {
+        self.add(&format!(
+            "<rect x=\"{left:.1}\" y=\"{top:.1}\" width=\"{width:.1}\" height=\"{height:.1}\" \
+             fill=\"{WHITE}\"/>"
+        ));
+    }
+
+    /// The whole text.
+    pub fn finished(self) -> String {
+        self.0
+    }
+}
+
 /// A diamond with a white edge.
 fn diamond(x: f64, y: f64, half: f64, colour: &str) -> String {
     let (left, right, top, bottom) = (x - half, x + half, y - half, y + half);
