@@ -136,6 +136,7 @@ fn refused(options: &Options, name: &str, circuit: &Circuit, refusal: &Refusal) 
 fn planned(options: &Options, view: &View<'_>) -> Answer {
     let text = match options.json {
         true => json::plan(view),
+        false if options.brief => text::brief(view, &options.style),
         false => text::plan(view, &options.style),
     };
     Answer {

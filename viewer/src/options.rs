@@ -16,7 +16,7 @@ show: plans a circuit through the proved library and shows the plan; or has the
 library optimize a list of pending operations, and shows it before and after
 
   ./show [--json] [--svg FILE] [--words FILE] [--store FILE] [--force] [--ascii]
-         [--columns N] CIRCUIT          or --stored FILE in place of CIRCUIT
+         [--brief] [--columns N] CIRCUIT   or --stored FILE in place of CIRCUIT
   ./show --optimize LIST [--json] [--columns N]
 
 CIRCUIT is a file, or - for standard input. One record a line; # is a comment.
@@ -60,6 +60,8 @@ Of a plan it prints the choice with both sides of each test; notes on what may
 be meant otherwise; works, and how many times cheaper the split is; dimensions;
 a line a record; the components' lives as lanes; the final groups.
   --json        the same, or the refusal, for programs instead (docs/JSON.md)
+  --brief       of these only the choice without its tests, the notes, the works
+                and the lanes; with no --json and no --optimize
   --svg FILE    the lanes as a picture besides
   --words FILE  head (4 words, ceiling last) and records (8 each) besides: 64
                 bits each, little-endian
@@ -109,6 +111,8 @@ pub struct Options {
     pub force: bool,
     /// Whether the plan is printed for programs.
     pub json: bool,
+    /// Whether it is printed in brief.
+    pub brief: bool,
     /// How wide the text is and how the lanes are drawn.
     pub style: Style,
 }
@@ -149,6 +153,7 @@ struct Reader {
     columns: Option<usize>,
     force: bool,
     json: bool,
+    brief: bool,
     ascii: bool,
 }
 
@@ -266,6 +271,7 @@ impl Reader {
             "--version" | "-V" => return Ok(Next::Done(Request::Version)),
             "--force" => self.force = true,
             "--json" => self.json = true,
+            "--brief" => self.brief = true,
             "--ascii" => self.ascii = true,
             "--" => return Ok(Next::Names),
             _ if name.starts_with('-') && name != STANDARD_INPUT => {
@@ -346,9 +352,22 @@ impl Reader {
         }
     }
 
+    /// That what is printed in brief is a plan for a person.
+    fn brief_fits(&self) -> Result<(), String> {
+        let others = [
+            ("--json", self.json),
+            ("--optimize", self.optimize.is_some()),
+        ];
+        let given = others.iter().find(|(_, is_given)| self.brief && *is_given);
+        given.map_or(Ok(()), |(name, _)| {
+            Err(format!("expected no --brief beside {name}, found both"))
+        })
+    }
+
     /// The options, if a circuit, a stored plan or a list is named.
     fn finish(mut self) -> Result<Options, String> {
         let subject = self.subject()?;
+        self.brief_fits()?;
         let of_terminal = || terminal::columns().unwrap_or(USUAL_COLUMNS);
         let columns = self.columns.unwrap_or_else(of_terminal);
         Ok(Options {
@@ -358,6 +377,7 @@ impl Reader {
             store: self.store,
             force: self.force,
             json: self.json,
+            brief: self.brief,
             style: Style {
                 columns: columns.clamp(*COLUMNS.start(), *COLUMNS.end()),
                 ascii: self.ascii,

@@ -134,8 +134,8 @@ pub fn verdict(tests: &[Test]) -> String {
     format!("{count} of the four tests {verb}: {}", names.join(", "))
 }
 
-/// Whether the plan is selected, and why.
-fn choice(view: &View<'_>, columns: usize) -> String {
+/// Whether the plan is selected, and why; in brief without both sides of each test.
+fn choice(view: &View<'_>, is_brief: bool, columns: usize) -> String {
     let word = match view.plan.selected {
         true => "SELECTED",
         false => "NOT SELECTED",
@@ -149,7 +149,8 @@ fn choice(view: &View<'_>, columns: usize) -> String {
         Choice::Tested { tests, agrees } => (tests, agrees),
     };
     let mut text = said(&verdict(tests));
-    text.extend(tests.iter().map(|test| test_line(test, columns)));
+    let shown = tests.iter().filter(|_| !is_brief);
+    text.extend(shown.map(|test| test_line(test, columns)));
     if !agrees {
         let words = "The tests computed here say otherwise than the plan. The plan counts.";
         text.push_str(&figures::wrapped("  ", words, columns));
@@ -317,8 +318,8 @@ fn groups(view: &View<'_>) -> String {
 }
 
 /// The heading, the choice and, for a circuit, the notes; for a stored plan, what was not checked.
-fn opening(view: &View<'_>, columns: usize) -> Vec<String> {
-    let choice = choice(view, columns);
+fn opening(view: &View<'_>, is_brief: bool, columns: usize) -> Vec<String> {
+    let choice = choice(view, is_brief, columns);
     match &view.planned {
         Some(planned) => {
             let name = visible(view.name);
@@ -333,10 +334,30 @@ fn opening(view: &View<'_>, columns: usize) -> Vec<String> {
     }
 }
 
+/// The lanes; empty where there are none.
+fn drawn(view: &View<'_>, style: &Style) -> String {
+    match view.is_read() && !view.replay.lives.is_empty() {
+        true => lanes::picture(&view.replay, style),
+        false => String::new(),
+    }
+}
+
+/// Parts with a line between; behind them the checksum of a stored plan that is written besides and,
+/// where it is so, that the lanes are not the plan's.
+fn joined(view: &View<'_>, mut parts: Vec<String>, columns: usize) -> String {
+    parts.push(stored_besides(view, columns));
+    if !view.agrees {
+        let words = "The lanes drawn here do not agree with the plan. The plan counts.";
+        parts.push(figures::wrapped("", words, columns));
+    }
+    parts.retain(|part| !part.is_empty());
+    parts.join("\n")
+}
+
 /// The whole view of a plan.
 pub fn plan(view: &View<'_>, style: &Style) -> String {
     let columns = style.columns;
-    let mut parts = opening(view, columns);
+    let mut parts = opening(view, false, columns);
     parts.push(work(view, columns));
     parts.push(dimensions(view, columns));
     if view.is_read() {
@@ -346,18 +367,18 @@ pub fn plan(view: &View<'_>, style: &Style) -> String {
                 None => stored_records(view, columns),
             });
         }
-        if !view.replay.lives.is_empty() {
-            parts.push(lanes::picture(&view.replay, style));
-        }
+        parts.push(drawn(view, style));
         parts.push(groups(view));
     }
-    parts.push(stored_besides(view, columns));
-    if !view.agrees {
-        let words = "The lanes drawn here do not agree with the plan. The plan counts.";
-        parts.push(figures::wrapped("", words, columns));
-    }
-    parts.retain(|part| !part.is_empty());
-    parts.join("\n")
+    joined(view, parts, columns)
+}
+
+/// A plan in brief: whether it is selected and why, the works and the lanes.
+pub fn brief(view: &View<'_>, style: &Style) -> String {
+    let mut parts = opening(view, true, style.columns);
+    parts.push(work(view, style.columns));
+    parts.push(drawn(view, style));
+    joined(view, parts, style.columns)
 }
 
 /// The line of the head that a refusal is about, if it is about one that the file gives.
