@@ -1,4 +1,4 @@
-//! What stands above the lanes of the SVG picture: the name, the choice, the works, the dimensions.
+//! What stands above the lanes of the SVG picture: name, choice, works and dimensions.
 
 use crate::choice::Choice;
 use crate::figures;
@@ -14,8 +14,8 @@ const TITLE: f64 = 18.0;
 /// What stands in front of the name.
 const COMPONENTS: &str = "Components of ";
 
-/// How wide a bold text is at the size 1, at the most: most small letters and digits are narrow, all
-/// else may be a little wider than high.
+/// How wide a bold text is at the size 1, at the most: most small letters and digits are narrow,
+/// all else may be a little wider than high.
 fn width(text: &str) -> f64 {
     let of = |character: char| match character {
         'm' | 'w' | '@' | '%' | 'A'..='Z' => 1.1,

@@ -1,5 +1,5 @@
-//! Where things stand in the SVG picture: its parts below each other, each no wider than a page, with
-//! a column an event and a lane a component.
+//! Where things stand in the SVG picture: its parts below each other, each no wider than a page,
+//! with a column an event and a lane a component.
 
 use crate::figures;
 use crate::lives::{Event, Replay};
@@ -23,15 +23,15 @@ const MOST_EVENTS: usize = 100;
 /// The most width of a column where there are no more than so many, and of one among more.
 const FEW: (usize, f64) = (24, 34.0);
 const MOST_STEP: f64 = 22.0;
-/// Where columns are wider than this together, the lane numbers stand again in the middle, in a column
-/// of this width.
+/// Where columns are wider than this together, the lane numbers stand again in the middle, in a
+/// column of this width.
 const MOST_WITHOUT_RULER: f64 = 690.0;
 const RULER: f64 = 30.0;
 /// After so many lanes the record numbers stand again, in a row of this height.
 const LANES_PER_AXIS: usize = 28;
 const AXIS: f64 = 24.0;
-/// The height of a part's words above its axis, the distance between parts, and the height of a line
-/// of lanes that are not drawn.
+/// The height of a part's words above its axis, the distance between parts, and the height of a
+/// line of lanes that are not drawn.
 const PART: f64 = 22.0;
 const GAP: f64 = 22.0;
 const LINE: f64 = 16.0;

@@ -4,7 +4,7 @@ use crate::layout::{Layout, MARGIN};
 use crate::lives::Deed;
 use crate::shapes::{self, line, shade, Sheet, GREY, LARGEST};
 
-/// The distance between two lines, and from the picture to the first and from the last to the edge.
+/// The distance between two lines, from the picture to the first, and from the last to the edge.
 const LINE: f64 = 22.0;
 const ABOVE: f64 = 30.0;
 const BELOW: f64 = 14.0;
@@ -13,8 +13,8 @@ const BELOW: f64 = 14.0;
 const LANES: &str = "A lane is a component. Its members are the coordinates that it holds: with \
                      more of them it is thicker and darker.";
 const WORDS: &str =
-    "Words behind a lane tell its end: 'joins 4 at 9' means that it goes over into \
-                     lane 4 at record 9.";
+    "The words behind a lane tell how it ends: 'joins 4 at 9' names the lane that it \
+                     joins, and the record.";
 const COLUMNS: &str = "Records that concern no component have no column.";
 const SIZES: &str = "A number below a mark: the members after the join.";
 const PARTS: [&str; 2] = [

@@ -1,5 +1,5 @@
-//! A picture that is too wide goes on below, in parts: which events a part has, and which components
-//! are drawn in it.
+//! A picture that is too wide goes on below, in parts: which events a part has, and which
+//! components are drawn in it.
 
 use crate::lives::{Event, Life, Replay};
 

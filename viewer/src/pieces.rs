@@ -1,5 +1,5 @@
-//! A component's lane in the SVG picture: its pieces in the parts where it is drawn, its number in front
-//! and its end in words behind.
+//! A component's lane in the SVG picture: its pieces in the parts where it is drawn, its number in
+//! front and its end in words behind.
 
 use crate::figures;
 use crate::layout::{Layout, Section, LEFT};
@@ -97,8 +97,8 @@ impl Lane<'_> {
         segments
     }
 
-    /// The number in front; a bar where the lane is there at the start, and gaps where it comes from
-    /// another part.
+    /// The number in front; a bar where the lane is there at the start, and gaps where it comes
+    /// from another part.
     fn begin(&self, sheet: &mut Sheet, section: &Section<'_>, y: f64) {
         let (layout, part) = (self.layout, &section.part);
         match part.enters(self.life) {
@@ -125,8 +125,8 @@ impl Lane<'_> {
         }
     }
 
-    /// An arrow where the lane lives to the end, and gaps where it goes on in another part; its end in
-    /// words in the part where it ends.
+    /// An arrow where the lane lives to the end, and gaps where it goes on in another part; its
+    /// end in words in the part where it ends.
     fn end(&self, sheet: &mut Sheet, section: &Section<'_>, y: f64) {
         let (layout, life) = (self.layout, self.life);
         let end = layout.end(section);

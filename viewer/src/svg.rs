@@ -1,6 +1,6 @@
 //! The components' lives as an SVG picture: a lane a component, time from left to right, with
-//! births, joins, rotations, measurements and ends marked, and a tooltip for each. A picture that is
-//! wider than a page goes on below, in parts.
+//! births, joins, rotations, measurements and ends marked, and a tooltip for each. A picture that
+//! is wider than a page goes on below, in parts.
 
 use crate::figures;
 use crate::heading;
@@ -16,7 +16,7 @@ use crate::text;
 /// The least distance between two numbers on the axis, and the size of these.
 const TICK: f64 = 26.0;
 const AXIS_FONT: f64 = 11.0;
-/// The white band behind the numbers of an axis: how far above the lanes it begins and how high it is.
+/// The white band behind the numbers of an axis: how far above the lanes it begins, its height.
 const BAND: (f64, f64) = (20.0, 16.0);
 /// How wide a digit is at the size 1.
 const DIGIT: f64 = 0.65;
@@ -56,8 +56,8 @@ impl Picture<'_> {
         }
     }
 
-    /// The record numbers above a block of lanes, so many apart that they can be read. Joins that cross
-    /// them pass behind a white band.
+    /// The record numbers above a block of lanes, so many apart that they can be read. Joins that
+    /// cross them pass behind a white band.
     fn axis_numbers(&mut self, section: &Section<'_>, top: f64) {
         let (above, height) = BAND;
         let width = self.layout.end(section) - LEFT + 12.0;
@@ -70,8 +70,8 @@ impl Picture<'_> {
         self.sheet.add("</g>");
     }
 
-    /// The numbers of a part's records, and in a group those of its lanes where they are born and in its
-    /// ruler.
+    /// The numbers of a part's records, and in a group those of its lanes, where they are born and
+    /// in its ruler.
     fn numbers(&mut self, section: &Section<'_>) {
         for (top, _) in self.layout.blocks(section) {
             self.axis_numbers(section, top);
