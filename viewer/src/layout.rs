@@ -288,24 +288,27 @@ mod tests {
         }
     }
 
+    /// That a part's columns are apart, end in front of its edge, and have lane numbers near.
+    fn has_room(layout: &Layout<'_>, section: &Section<'_>) -> bool {
+        let events = section.part.events.iter();
+        let columns: Vec<_> = events.map(|event| layout.x(event.record)).collect();
+        let mut apart = columns.windows(2).map(|pair| pair[1] - pair[0]);
+        let end = layout.end(section);
+        let numbers = layout.ruler(section).map_or(LEFT, |(_, x)| x);
+        apart.all(|apart| apart >= layout.step)
+            && columns.last().is_none_or(|&last| last < end)
+            && end - numbers <= 700.0
+    }
+
     #[test]
     fn no_picture_is_wider_than_a_page() {
         for records in 0..=1024 {
             let replay = turned(records);
             let layout = Layout::of(&replay);
             assert!(layout.width() <= PAGE && layout.width() >= LEAST_WIDTH);
-            assert!(records == 0 || layout.step >= 11.0);
-            for section in &layout.sections {
-                let events = section.part.events.iter();
-                let columns: Vec<_> = events.map(|event| layout.x(event.record)).collect();
-                let apart = columns.windows(2).map(|pair| pair[1] - pair[0]);
-                assert!(apart.into_iter().all(|apart| apart >= layout.step));
-                assert!(columns
-                    .last()
-                    .is_none_or(|&last| last < layout.end(section)));
-                let numbers = layout.ruler(section).map_or(LEFT, |(_, x)| x);
-                assert!(layout.end(section) - numbers <= 700.0);
-            }
+            assert!(layout.step >= 11.0);
+            let mut sections = layout.sections.iter();
+            assert!(sections.all(|section| has_room(&layout, section)));
         }
     }
 

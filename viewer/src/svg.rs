@@ -70,12 +70,16 @@ impl Picture<'_> {
         self.sheet.add("</g>");
     }
 
-    /// The numbers of a part's records, and in a group those of its lanes, where they are born and
-    /// in its ruler.
+    /// The numbers of a part's records, and those of its lanes inside it.
     fn numbers(&mut self, section: &Section<'_>) {
         for (top, _) in self.layout.blocks(section) {
             self.axis_numbers(section, top);
         }
+        self.ruler(section);
+    }
+
+    /// The numbers of a part's lanes where these are born and in its ruler.
+    fn ruler(&mut self, section: &Section<'_>) {
         self.sheet.add("<g class=\"ruler\">");
         for &component in &section.lanes {
             self.lane_numbers(section, component);
@@ -142,13 +146,14 @@ impl Picture<'_> {
 
     /// The lines by which others join an event's component, all over one white edge.
     fn joins(&mut self, event: &Event) {
-        for &from in &event.joined {
-            let path = self.join_path(event, from);
-            self.sheet.add(&line(&path, WHITE, 5.0));
+        if event.joined.is_empty() {
+            return;
         }
+        let joined = event.joined.iter();
+        let paths: Vec<_> = joined.map(|&from| self.join_path(event, from)).collect();
+        self.sheet.add(&line(&paths.concat(), WHITE, 5.0));
         let (record, into) = (event.record, event.component);
-        for &from in &event.joined {
-            let path = self.join_path(event, from);
+        for (from, path) in event.joined.iter().zip(&paths) {
             self.sheet.add(&format!(
                 "<path class=\"join\" data-record=\"{record}\" data-from=\"{from}\" \
                  data-into=\"{into}\" d=\"{path}\" {}>\
