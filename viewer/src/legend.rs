@@ -13,8 +13,8 @@ const BELOW: f64 = 14.0;
 const LANES: &str = "A lane is a component. Its members are the coordinates that it holds: with \
                      more of them it is thicker and darker.";
 const WORDS: &str =
-    "The words behind a lane tell how it ends: 'joins 4 at 9' names the lane that it \
-                     joins, and the record.";
+    "The words behind a lane tell how it ends: 'joins 4 at 9' has the lane that it \
+                     joins, and the record; 'lives: 2 3' its members then.";
 const COLUMNS: &str = "Records that concern no component have no column.";
 const SIZES: &str = "A number below a mark: the members after the join.";
 const PARTS: [&str; 2] = [
@@ -85,4 +85,42 @@ pub fn draw(sheet: &mut Sheet, layout: &Layout<'_>, bottom: f64) {
         sheet.grey_words((MARGIN, base), 12.0, "start", words);
     }
     sheet.add("</g>");
+}
+
+#[cfg(test)]
+mod tests {
+    use super::*;
+    use crate::circuit;
+    use crate::planning::View;
+
+    /// The legend of a circuit with so many rotations of two coordinates.
+    fn legend(rotations: usize) -> String {
+        let text = format!("initial 2\nmax 8\n{}", "rotate XX 1\n".repeat(rotations));
+        let circuit = circuit::parse(text.as_bytes()).unwrap();
+        let view = View::of("-", &circuit).unwrap();
+        let layout = Layout::of(&view.replay);
+        let mut sheet = Sheet::default();
+        draw(&mut sheet, &layout, 100.0);
+        let text = sheet.finished();
+        let last = text
+            .rsplit("y=\"")
+            .next()
+            .and_then(|rest| rest.split('"').next());
+        let base: f64 = last.unwrap().parse().unwrap();
+        assert!((4.0..BELOW).contains(&(100.0 + height(&layout) - base)));
+        text
+    }
+
+    #[test]
+    fn the_legend_tells_what_the_picture_has() {
+        for (rotations, has_sizes, has_parts) in
+            [(7, true, false), (99, false, false), (101, true, true)]
+        {
+            let text = legend(rotations);
+            assert!(text.contains(">A lane is a component. Its members are the coordinates"));
+            assert!(text.contains("has the lane that it joins"));
+            assert_eq!(text.contains(SIZES), has_sizes);
+            assert_eq!(PARTS.map(|words| text.contains(words)), [has_parts; 2]);
+        }
+    }
 }
