@@ -5,7 +5,7 @@ use midvokt::{ActiveMeasurement, Head, Record, Rotation, LARGEST_CEILING};
 
 use crate::angle;
 use crate::fields::Fields;
-use crate::line::{quoted, Fault, Line};
+use crate::line::{quoted, Fault, Faults, Line};
 use crate::pauli::{self, active, Pauli, Told};
 
 const HEAD_WORDS: [&str; 4] = ["initial", "max", "expvals", "ceiling"];
@@ -62,7 +62,7 @@ struct Reader {
     /// The first line behind the head.
     first_record: Option<usize>,
     records: Vec<Placed>,
-    faults: Vec<Fault>,
+    faults: Faults,
 }
 
 impl Reader {
@@ -152,7 +152,7 @@ impl Reader {
     }
 
     /// The circuit, or everything that is bad in the file.
-    fn finish(mut self, lines: usize) -> Result<Circuit, Vec<Fault>> {
+    fn finish(mut self, lines: usize) -> Result<Circuit, Faults> {
         if self.first_record.is_none() {
             self.head_is_whole(lines + 1, "the end of the file");
         }
@@ -290,8 +290,8 @@ pub fn text_of(bytes: &[u8]) -> Result<&str, Fault> {
 }
 
 /// The circuit of a file, or everything that is bad in it.
-pub fn parse(bytes: &[u8]) -> Result<Circuit, Vec<Fault>> {
-    let text = text_of(bytes).map_err(|fault| vec![fault])?;
+pub fn parse(bytes: &[u8]) -> Result<Circuit, Faults> {
+    let text = text_of(bytes)?;
     let mut reader = Reader::default();
     let mut lines = 0;
     for (place, line) in text.lines().enumerate() {
@@ -312,8 +312,8 @@ mod tests {
 
     /// The faults of a circuit, as they are told.
     fn bad(text: &str) -> Vec<String> {
-        let faults = parse(text.as_bytes()).unwrap_err();
-        faults.iter().map(Fault::to_string).collect()
+        let told = parse(text.as_bytes()).unwrap_err().text("");
+        told.lines().map(|line| line[1..].to_owned()).collect()
     }
 
     #[test]
@@ -438,7 +438,7 @@ mod tests {
 
     #[test]
     fn bytes_that_are_no_text_are_placed() {
-        let faults = parse(b"initial 1\nma\xff 8").unwrap_err();
-        assert_eq!((faults[0].line, faults[0].column), (2, 3));
+        let told = parse(b"initial 1\nma\xff 8").unwrap_err().text("f");
+        assert_eq!(told, "f:2:3: expected text in UTF-8, found the byte 0xff\n");
     }
 }

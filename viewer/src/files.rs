@@ -21,16 +21,6 @@ pub const STANDARD_INPUT: &str = "-";
 /// As many links are followed as the system follows.
 const MOST_LINKS: usize = 40;
 
-/// The bytes of a file, or of standard input.
-pub fn read(path: &Path) -> io::Result<Vec<u8>> {
-    if path.as_os_str() != STANDARD_INPUT {
-        return fs::read(path);
-    }
-    let mut bytes = Vec::new();
-    io::stdin().lock().read_to_end(&mut bytes)?;
-    Ok(bytes)
-}
-
 /// The bytes of a file, or of standard input; none where there are more than so many, of which no
 /// more are read.
 pub fn read_at_most(path: &Path, most: usize) -> io::Result<Option<Vec<u8>>> {

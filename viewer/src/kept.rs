@@ -1,10 +1,11 @@
 //! A stored plan that is read from its file: the plan where its words make one that can be followed,
 //! else in words why not, with what the file holds.
 
-use midvokt::{file_bytes, load, Refusal, Scalars, Stored, StoredPlan, MOST_RECORDS};
+use midvokt::{file_bytes, load, Reason, Refusal, Scalars, Stored, MOST_RECORDS};
 
 use crate::checksum::{self, Checksum};
 use crate::figures;
+use crate::kinds;
 use crate::lanes::Style;
 use crate::planning::View;
 use crate::sense;
@@ -55,8 +56,10 @@ fn too_long() -> String {
 
 /// Why a file is refused; the number's own sentence where nothing more is known.
 fn refused(bytes: &[u8], refusal: Refusal) -> Fault {
+    let other = (refusal.reason == Reason::File).then(|| kinds::unstored(bytes));
     let why = trailer::why(bytes).filter(|(number, _)| *number == refusal.number());
-    let words = why.map_or(refusal.sentence().to_owned(), |(_, words)| words);
+    let why = other.flatten().or(why.map(|(_, words)| words));
+    let words = why.unwrap_or(refusal.sentence().to_owned());
     Fault::Refused(refusal, words)
 }
 

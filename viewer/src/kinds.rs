@@ -1,6 +1,6 @@
 //! What a file is, told from its bytes: a picture, a stored plan, a circuit, a list of pending
-//! operations, other text, or none of these. Nothing in here judges whether a file is a good one
-//! of its kind.
+//! operations, other text, or none of these; and what is said of one that is not what was asked
+//! for. Nothing in here judges whether a file is a good one of its kind.
 
 use midvokt::{FILE_VERSION, TRAILER_WORDS};
 
@@ -25,7 +25,7 @@ pub enum Kind {
     List,
     /// Other text in UTF-8.
     Text,
-    /// Text in UTF-16, as its first two bytes say.
+    /// Text in UTF-16, as its first two bytes say, or as all of it is read.
     Utf16,
     /// None of these.
     Binary,
@@ -115,20 +115,27 @@ fn of_text(text: &str) -> Kind {
     }
 }
 
-/// What bytes are that are no stored plan.
-fn of_other(bytes: &[u8]) -> Kind {
-    match std::str::from_utf8(bytes) {
-        Ok(text) if !text.contains('\0') => of_text(text.trim_start_matches('\u{feff}')),
-        _ if is_utf16(bytes) => Kind::Utf16,
-        _ => Kind::Binary,
-    }
+/// Whether a byte of text says nothing that a person reads.
+fn is_control(byte: u8) -> bool {
+    byte.is_ascii_control() && !byte.is_ascii_whitespace()
 }
 
-/// Whether binary data may be text in another encoding: no byte is a control character but white
-/// space and the escape character.
-pub fn may_be_text(bytes: &[u8]) -> bool {
-    let may_be = |&byte: &u8| !byte.is_ascii_control() || matches!(byte, 0x09..=0x0d | 0x1b);
-    bytes.iter().all(may_be)
+/// Whether bytes are read as UTF-16 of this order without an odd sign, in words that are mostly
+/// of ASCII.
+fn is_utf16(bytes: &[u8], unit: fn([u8; 2]) -> u16) -> bool {
+    let units = || bytes.chunks_exact(2).map(|two| unit([two[0], two[1]]));
+    let is_odd = |sign: char| sign.is_control() && !sign.is_whitespace();
+    let mut signs = char::decode_utf16(units());
+    let of_ascii = units().filter(|unit| *unit < 0x80).count();
+    4 * of_ascii > bytes.len() && signs.all(|sign| sign.is_ok_and(|sign| !is_odd(sign)))
+}
+
+/// Whether bytes are text in UTF-16, with a mark in front or without.
+fn is_wide_text(bytes: &[u8]) -> bool {
+    let is_marked = bytes.starts_with(b"\xff\xfe") || bytes.starts_with(b"\xfe\xff");
+    let has_pairs = bytes.len().is_multiple_of(2) && bytes.contains(&0);
+    let is_read = || is_utf16(bytes, u16::from_le_bytes) || is_utf16(bytes, u16::from_be_bytes);
+    is_marked || has_pairs && is_read()
 }
 
 /// What a file with these bytes is.
@@ -136,18 +143,67 @@ pub fn of(bytes: &[u8]) -> Kind {
     match bytes {
         [] => Kind::Empty,
         _ if is_stored_plan(bytes) => Kind::StoredPlan,
-        _ => of_other(bytes),
+        _ if is_wide_text(bytes) => Kind::Utf16,
+        _ => match std::str::from_utf8(bytes) {
+            Ok(text) if !text.contains('\0') => of_text(text.trim_start_matches('\u{feff}')),
+            _ => Kind::Binary,
+        },
     }
 }
 
-/// What a file is that begins with these bytes and has more than a stored plan: what it is so far,
-/// a character that is cut at the end aside.
-pub fn of_opening(bytes: &[u8]) -> Kind {
-    let end = match std::str::from_utf8(bytes) {
-        Err(error) if error.error_len().is_none() => error.valid_up_to(),
-        _ => bytes.len(),
+impl Kind {
+    /// A file of this kind, in words.
+    fn noun(self) -> &'static str {
+        match self {
+            Self::Empty => "an empty file",
+            Self::Picture => "an SVG picture",
+            Self::StoredPlan => "a stored plan",
+            Self::Circuit => "a circuit",
+            Self::List => "a list of pending operations",
+            Self::Text => "text",
+            Self::Utf16 => "text in UTF-16",
+            Self::Binary => "binary data",
+        }
+    }
+
+    /// What to do with a file of this kind where a file of another kind was asked for by an option,
+    /// or by none.
+    fn way(self, option: &str) -> String {
+        match self {
+            Self::StoredPlan => "; --stored shows it".to_owned(),
+            Self::List => "; --optimize shows it".to_owned(),
+            Self::Circuit => format!("; it is shown without {option}"),
+            Self::Utf16 => "; save it as UTF-8".to_owned(),
+            _ => String::new(),
+        }
+    }
+}
+
+/// What is said of a file that is something else than the circuit or the list that was asked for;
+/// nothing of one that may be it, or that is text with an odd byte.
+pub fn other(bytes: &[u8], wanted: Kind) -> Option<String> {
+    let found = of(bytes);
+    let has_width = || std::str::from_utf8(bytes).is_ok_and(|text| has_line(text, &["width"]));
+    let is_other = match found {
+        Kind::Circuit | Kind::List if found == wanted => false,
+        Kind::Circuit => !has_width(),
+        Kind::Binary => bytes.iter().copied().any(is_control),
+        Kind::Empty | Kind::Text => false,
+        _ => true,
     };
-    of_other(&bytes[..end])
+    let (wanted, way) = (wanted.noun(), found.way("--optimize"));
+    is_other.then(|| format!("expected {wanted}, found {}{way}", found.noun()))
+}
+
+/// What a file is that is no stored plan, where more than its bytes is to be said of it.
+pub fn unstored(bytes: &[u8]) -> Option<String> {
+    let found = of(bytes);
+    let is_told = !matches!(found, Kind::Empty | Kind::StoredPlan | Kind::Binary);
+    let way = match found {
+        Kind::Circuit | Kind::List => found.way("--stored"),
+        _ => String::new(),
+    };
+    is_told.then(|| format!("it is {} and no stored plan{way}", found.noun()))
 }
 
 #[cfg(test)]
@@ -178,6 +234,10 @@ mod tests {
         assert_eq!(of(b"# initial 3\nrecord"), Kind::Text);
         assert_eq!(of(b"\xff\xfei\0n\0"), Kind::Utf16);
         assert_eq!(of(b"\xfe\xff\0i\0n"), Kind::Utf16);
+        assert_eq!(of(b"m\0a\0x\0\x20\0\xc0\x03"), Kind::Utf16);
+        assert_eq!(of(b"\0m\0a\0x\0\x0a"), Kind::Utf16);
+        assert_eq!(of(b"\0m\0a\0x\0\x01"), Kind::Binary);
+        assert_eq!(of(b"\0m\0a\x4e\x01\x4e\x02\x4e\x03"), Kind::Binary);
         assert_eq!(of(b""), Kind::Empty);
         assert_eq!(of(b"a\0b"), Kind::Binary);
         assert_eq!(of(b"\xc3\x28"), Kind::Binary);
@@ -185,83 +245,64 @@ mod tests {
     }
 
     #[test]
-    fn a_picture_begins_with_its_element() {
-        let pictures = [
-            "<svg/>",
-            "\n <svg\twidth='1'>",
-            "<!-- <html> --><?made?> <!-- again --><svg>",
-            "<!DOCTYPE svg PUBLIC \"-//W3C\" \"a.dtd\">\n<svg >",
-            "<!DOCTYPE svg [ <!ENTITY a \"b\"> ] >\n<svg >",
+    fn what_was_not_asked_for_is_told() {
+        let plan = planning::stored(&circuit::parse(b"initial 1\nmax 8").unwrap()).unwrap();
+        let files: [(&[u8], Option<&str>, Option<&str>); 10] = [
+            (
+                b"max 8",
+                None,
+                Some("a circuit; it is shown without --optimize"),
+            ),
+            (
+                b"width 8",
+                Some("a list of pending operations; --optimize shows it"),
+                None,
+            ),
+            (b"width 8\ninitial 3", None, None),
+            (
+                &plan,
+                Some("a stored plan; --stored shows it"),
+                Some("a stored plan; --stored shows it"),
+            ),
+            (b"<svg>", Some("an SVG picture"), Some("an SVG picture")),
+            (
+                b"\xff\xfem\0",
+                Some("text in UTF-16; save it as UTF-8"),
+                Some("text in UTF-16; save it as UTF-8"),
+            ),
+            (b"max\0", Some("binary data"), Some("binary data")),
+            (b"# f\xfcr\nmax 8\r\n", None, None),
+            (b"rotate X 1", None, None),
+            (b"", None, None),
         ];
-        for text in pictures {
-            assert_eq!(of(text.as_bytes()), Kind::Picture, "{text}");
-        }
-        let others = [
-            "<svg",
-            "<svgs>",
-            "<!-- <svg> -->",
-            "<!-- <svg>",
-            "<!DOCTYPE svg [ <svg> ",
-            "<!-- a picture --><html><svg></svg></html>",
-            "&lt;<svg>",
-        ];
-        for text in others {
-            assert_eq!(of(text.as_bytes()), Kind::Text, "{text}");
+        for (bytes, circuit, list) in files {
+            let told = |wanted: &str, found: &str| format!("expected {wanted}, found {found}");
+            let wanted = circuit.map(|found| told("a circuit", found));
+            assert_eq!(other(bytes, Kind::Circuit), wanted);
+            let wanted = list.map(|found| told("a list of pending operations", found));
+            assert_eq!(other(bytes, Kind::List), wanted);
         }
     }
 
     #[test]
-    fn words_and_stored_plans_are_no_text_in_utf_16() {
-        let circuit = circuit::parse(b"initial 65279\nmax 8").unwrap();
-        let words = words::encode(&circuit);
-        assert!(words.starts_with(&[0xff, 0xfe]));
-        assert_eq!(of(&words), Kind::Binary);
-        let mut plan = planning::stored(&circuit::parse(b"initial 3\nmax 8").unwrap()).unwrap();
-        plan[..2].copy_from_slice(&[0xff, 0xfe]);
-        assert_eq!(of(&plan), Kind::StoredPlan);
-    }
-
-    #[test]
-    fn a_stored_plan_is_no_longer_than_one_can_be() {
-        let of_length = |length: usize| {
-            let mut bytes = vec![0; length];
-            bytes[length - 16..length - 8].copy_from_slice(&(length as u64).to_le_bytes());
-            bytes[length - 8..].copy_from_slice(&FILE_VERSION.to_le_bytes());
-            of(&bytes)
-        };
-        assert_eq!(of_length(TRAILER_WORDS * 8 - 8), Kind::Binary);
-        assert_eq!(of_length(TRAILER_WORDS * 8), Kind::StoredPlan);
-        assert_eq!(of_length(TRAILER_WORDS * 8 + 1), Kind::Binary);
-        assert_eq!(of_length(MOST_BYTES), Kind::StoredPlan);
-        assert_eq!(of_length(MOST_BYTES + 8), Kind::Binary);
-    }
-
-    #[test]
-    fn text_of_another_encoding_may_be_told() {
-        assert!(may_be_text(b"initial 3 # caf\xe9\r\n\tmax 8\n\x1b[0m"));
-        for control in [0, 1, 8, 0x0e, 0x1a, 0x1c, 0x1f, 0x7f] {
-            assert!(!may_be_text(&[b'a', control, 0xe9]), "{control}");
-        }
-        let words = words::encode(&circuit::parse(b"initial 3\nmax 8").unwrap());
-        assert!(!may_be_text(&words));
-    }
-
-    #[test]
-    fn an_opening_tells_what_a_long_file_is() {
-        for (text, kind) in [
-            ("<svg>", Kind::Picture),
-            ("max 8\n", Kind::Circuit),
-            ("width 8\n", Kind::List),
-            ("a", Kind::Text),
-        ] {
-            let whole = text.to_owned() + "é";
-            assert_eq!(of_opening(&whole.as_bytes()[..whole.len() - 1]), kind);
-            assert_eq!(of_opening(whole.as_bytes()), kind);
-        }
-        assert_eq!(of_opening(b"a\xc3("), Kind::Binary);
-        assert_eq!(of_opening(b"a\0\xc3"), Kind::Binary);
-        assert_eq!(of_opening(b"\xff\xfea\0b"), Kind::Utf16);
-        let plan = planning::stored(&circuit::parse(b"initial 3\nmax 8").unwrap()).unwrap();
-        assert_eq!(of_opening(&plan), Kind::Binary);
+    fn what_is_no_stored_plan_is_told() {
+        let told = |bytes: &[u8]| unstored(bytes).unwrap_or_default();
+        assert_eq!(
+            told(b"max 8"),
+            "it is a circuit and no stored plan; it is shown without --stored"
+        );
+        assert_eq!(
+            told(b"width 8"),
+            "it is a list of pending operations and no stored plan; --optimize shows it"
+        );
+        assert_eq!(told(b"<svg>"), "it is an SVG picture and no stored plan");
+        assert_eq!(told(b"{}"), "it is text and no stored plan");
+        assert_eq!(
+            told(b"\xff\xfe{\0"),
+            "it is text in UTF-16 and no stored plan"
+        );
+        assert_eq!(told(b""), "");
+        assert_eq!(told(&[1; 16]), "it is text and no stored plan");
+        assert_eq!(told(&[0; 16]), "");
     }
 }

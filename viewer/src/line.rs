@@ -4,6 +4,8 @@ use std::fmt;
 
 /// The most characters of a file that a message repeats.
 const MOST_REPEATED: usize = 40;
+/// The most bad lines that are told.
+const MOST_TOLD: usize = 20;
 
 /// A place in the file at which something else was expected.
 #[derive(Clone, Debug, PartialEq, Eq)]
@@ -31,6 +33,48 @@ impl fmt::Display for Fault {
             formatter,
             "{line}:{column}: expected {expected}, found {found}"
         )
+    }
+}
+
+/// All that is bad in a file: the first places, in order, and how many there are.
+#[derive(Clone, Debug, Default, PartialEq, Eq)]
+pub struct Faults {
+    told: Vec<Fault>,
+    count: usize,
+}
+
+impl Faults {
+    /// Adds a place behind the others.
+    pub fn push(&mut self, fault: Fault) {
+        self.count += 1;
+        if self.told.len() < MOST_TOLD {
+            self.told.push(fault);
+        }
+    }
+
+    /// Whether nothing is bad.
+    pub fn is_empty(&self) -> bool {
+        self.count == 0
+    }
+
+    /// What is said of the file of this name: a line each, and how many more there are.
+    pub fn text(&self, name: &str) -> String {
+        let told = self.told.iter().map(|fault| format!("{name}:{fault}\n"));
+        let more = match self.count - self.told.len() {
+            0 => String::new(),
+            1 => format!("{name}: 1 more bad line\n"),
+            more => format!("{name}: {more} more bad lines\n"),
+        };
+        told.chain([more]).collect()
+    }
+}
+
+impl From<Fault> for Faults {
+    /// A file in which one place is bad.
+    fn from(fault: Fault) -> Self {
+        let mut faults = Self::default();
+        faults.push(fault);
+        faults
     }
 }
 
@@ -213,6 +257,23 @@ mod tests {
         for bad in ["+1", "-1", "1.0", "0x", "0b2", "x", "0x+1"] {
             assert_eq!(read(bad).unwrap_err().expected, "a number", "{bad}");
         }
+    }
+
+    #[test]
+    fn the_first_bad_lines_are_told_and_the_others_counted() {
+        let word = |number| Line::new(number, "x").words[0];
+        let mut faults = Faults::default();
+        assert!(faults.is_empty());
+        for number in 2..22 {
+            faults.push(word(number).fault("y"));
+        }
+        let told = faults.text("f");
+        assert_eq!(told.lines().count(), 20);
+        assert!(told.ends_with("f:21:1: expected y, found 'x'\n"), "{told}");
+        faults.push(word(22).fault("y"));
+        assert!(faults.text("f").ends_with("\nf: 1 more bad line\n"));
+        faults.push(word(22).fault("y"));
+        assert!(faults.text("f").ends_with("\nf: 2 more bad lines\n"));
     }
 
     #[test]

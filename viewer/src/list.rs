@@ -10,7 +10,7 @@ use midvokt::{
 use crate::angle;
 use crate::circuit::{pauli_of, text_of};
 use crate::fields::Fields;
-use crate::line::{quoted, Fault, Line, Word};
+use crate::line::{quoted, Fault, Faults, Line, Word};
 use crate::pauli;
 use crate::symbols;
 
@@ -59,7 +59,7 @@ struct Reader {
     first: Option<usize>,
     operations: Vec<Queued>,
     kept: Vec<Kept>,
-    faults: Vec<Fault>,
+    faults: Faults,
 }
 
 /// What the width is, in words.
@@ -163,7 +163,7 @@ impl Reader {
     }
 
     /// The list, or everything that is bad in the file.
-    fn finish(mut self, lines: usize) -> Result<List, Vec<Fault>> {
+    fn finish(mut self, lines: usize) -> Result<List, Faults> {
         if self.first.is_none() {
             self.width_is_there(lines + 1, "the end of the file");
         }
@@ -307,8 +307,8 @@ fn classical(line: &Line<'_>) -> Result<PendingOperation, Fault> {
 }
 
 /// The list of a file, or everything that is bad in it.
-pub fn parse(bytes: &[u8]) -> Result<List, Vec<Fault>> {
-    let text = text_of(bytes).map_err(|fault| vec![fault])?;
+pub fn parse(bytes: &[u8]) -> Result<List, Faults> {
+    let text = text_of(bytes)?;
     let mut reader = Reader::default();
     let mut lines = 0;
     for (place, line) in text.lines().enumerate() {
@@ -397,8 +397,8 @@ mod tests {
 
     /// The faults of a list, as they are told.
     fn bad(text: &str) -> Vec<String> {
-        let faults = parse(text.as_bytes()).unwrap_err();
-        faults.iter().map(Fault::to_string).collect()
+        let told = parse(text.as_bytes()).unwrap_err().text("");
+        told.lines().map(|line| line[1..].to_owned()).collect()
     }
 
     /// The words of the operation on a line behind a width of 3.

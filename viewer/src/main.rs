@@ -14,7 +14,6 @@ mod files;
 mod heading;
 mod json;
 mod kept;
-mod kernel_sense;
 mod kinds;
 mod lanes;
 mod layout;
@@ -54,9 +53,9 @@ use circuit::Circuit;
 use files::Output;
 use kept::Fault;
 use kinds::Kind;
-use line::{visible, Fault as BadLine};
+use line::{visible, Faults};
 use list::List;
-use midvokt::Refusal;
+use midvokt::{Refusal, MOST_RECORDS};
 use optimizing::Optimization;
 use options::{Options, Request, Subject};
 use planning::View;
@@ -65,8 +64,8 @@ const PLANNED: u8 = 0;
 const REFUSED: u8 = 1;
 const MALFORMED: u8 = 2;
 
-/// The most bad lines that are told.
-const MOST_TOLD: usize = 20;
+/// The most bytes that are read of a circuit or a list: 4,096 for each record that one may have.
+const MOST_BYTES: usize = 4096 * MOST_RECORDS;
 
 /// What goes to standard output, and the exit status.
 struct Answer {
@@ -74,21 +73,24 @@ struct Answer {
     status: u8,
 }
 
-/// What a file holds, by this way to read it, or all that is to be said of it.
+/// The circuit or the list that a file holds, by the way to read it, or all that is to be said of the
+/// file.
 fn read<T>(
     path: &Path,
     name: &str,
-    parse: fn(&[u8]) -> Result<T, Vec<BadLine>>,
+    wanted: Kind,
+    parse: fn(&[u8]) -> Result<T, Faults>,
 ) -> Result<T, String> {
-    let bytes = files::read(path).map_err(|error| format!("{name}: cannot be read: {error}\n"))?;
-    parse(&bytes).map_err(|faults| {
-        let told = faults.iter().take(MOST_TOLD);
-        let mut text: String = told.map(|fault| format!("{name}:{fault}\n")).collect();
-        if faults.len() > MOST_TOLD {
-            text += &format!("{name}: {} more bad lines\n", faults.len() - MOST_TOLD);
-        }
-        text
-    })
+    let bytes = files::read_at_most(path, MOST_BYTES)
+        .map_err(|error| format!("{name}: cannot be read: {error}\n"))?;
+    let bytes = bytes.ok_or_else(|| {
+        let most = figures::whole(MOST_BYTES as u64);
+        format!("{name}: expected at most {most} bytes, found more\n")
+    })?;
+    match kinds::other(&bytes, wanted) {
+        Some(other) => Err(format!("{name}: {other}\n")),
+        None => parse(&bytes).map_err(|faults| faults.text(name)),
+    }
 }
 
 /// Writes all files, or says which one cannot be written, or may not replace what is there.
@@ -175,8 +177,8 @@ fn stored<'a>(
 /// Plans the circuit, writes the files that are asked for, and gives what is printed.
 fn show(options: &Options, path: &Path) -> Result<Answer, String> {
     let name = path.to_string_lossy();
-    let circuit = read(path, &visible(&name), circuit::parse)?;
-    let mut view = View::of(&name, &circuit);
+    let circuit = read(path, &visible(&name), Kind::Circuit, circuit::parse)?;
+    let view = View::of(&name, &circuit);
     let words = options.words.as_ref().map(|path| Output {
         path,
         bytes: words::encode(&circuit),
@@ -258,7 +260,7 @@ fn refused_list(options: &Options, name: &str, list: &List, refusal: &Refusal) -
 /// Has a list of pending operations optimized, and gives what is printed.
 fn show_list(options: &Options, path: &Path) -> Result<Answer, String> {
     let name = path.to_string_lossy();
-    let list = read(path, &visible(&name), list::parse)?;
+    let list = read(path, &visible(&name), Kind::List, list::parse)?;
     let view = match Optimization::of(&name, &list) {
         Ok(view) => view,
         Err(refusal) => return Ok(refused_list(options, &name, &list, &refusal)),
