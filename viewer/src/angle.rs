@@ -3,9 +3,30 @@
 
 use std::f64::consts::PI;
 
+use crate::fields::Fields;
 use crate::line::{Fault, Word};
 
 const ANGLE: &str = "an angle in radians, as a number or a part of pi such as pi/8";
+/// What is expected in place of a number that is not finite, where a double is all that is asked.
+pub const FINITE: &str =
+    "a finite angle, at most 1.7976931348623157e308 in magnitude, such as 0.25 or pi/8";
+
+const DEGREES: [&str; 5] = ["°", "º", "deg", "degree", "degrees"];
+const RADIANS: [&str; 3] = ["rad", "radian", "radians"];
+/// What is often written for pi and for the signs of an angle.
+const SIGNS: [(&str, &str); 9] = [
+    ("π", "pi"),
+    ("numpy.pi", "pi"),
+    ("math.pi", "pi"),
+    ("np.pi", "pi"),
+    ("m_pi", "pi"),
+    ("−", "-"),
+    ("·", "*"),
+    ("×", "*"),
+    ("÷", "/"),
+];
+/// The most words that are taken for one angle.
+const MOST_PARTS: usize = 8;
 
 /// A number without a word such as inf or nan in it.
 fn plain(text: &str) -> Option<f64> {
@@ -34,26 +55,141 @@ fn divisor(text: &str) -> Option<f64> {
     }
 }
 
-/// A number.
-pub fn number(word: Word<'_>, expected: &str) -> Result<f64, Fault> {
-    plain(word.text).ok_or_else(|| word.fault(expected))
-}
-
-/// An angle in radians.
-pub fn parse(word: Word<'_>) -> Result<f64, Fault> {
-    let Some(place) = word.text.find("pi") else {
-        return number(word, ANGLE);
+/// The angle of a text, not finite where a number in it is not; none for other text.
+fn value(text: &str) -> Option<f64> {
+    let Some(place) = text.find("pi") else {
+        return plain(text);
     };
-    let (sign, front) = match word.text.as_bytes()[0] {
+    let (sign, front) = match text.as_bytes()[0] {
         b'-' => (-1.0, 1),
         b'+' => (1.0, 1),
         _ => (1.0, 0),
     };
-    let behind = word.from(place + "pi".len());
-    match (factor(&word.text[front..place]), divisor(behind.text)) {
-        (Some(_), Some(0.0)) => Err(behind.fault("a divisor that is not 0")),
-        (Some(factor), Some(divisor)) => Ok(sign * factor * PI / divisor),
-        _ => Err(word.fault(ANGLE)),
+    let divisor = divisor(&text[place + "pi".len()..])?;
+    let part = sign * factor(&text[front..place])? * PI / divisor;
+    Some(if divisor.is_finite() { part } else { divisor })
+}
+
+/// Whether text is an angle.
+fn is_angle(text: &str) -> bool {
+    value(text).is_some_and(f64::is_finite)
+}
+
+/// Whether text is a number.
+fn is_number(text: &str) -> bool {
+    plain(text).is_some_and(f64::is_finite)
+}
+
+/// Whether text is a word for what is no finite number.
+fn is_endless(text: &str) -> bool {
+    let word = text.trim_start_matches(['+', '-']).to_ascii_lowercase();
+    ["nan", "inf", "infinity", "∞"].contains(&word.as_str())
+}
+
+/// A number with a unit behind, in radians.
+fn in_radians(text: &str) -> Option<String> {
+    let number = |units: &[&str]| {
+        let mut numbers = units.iter().filter_map(|unit| text.strip_suffix(unit));
+        numbers.find(|number| is_number(number))
+    };
+    let of_degrees = number(&DEGREES).map(|number| format!("{number}pi/180"));
+    of_degrees.or_else(|| number(&RADIANS).map(str::to_owned))
+}
+
+/// A part of pi with its factor in front, where that stands behind.
+fn factor_first(text: &str) -> Option<String> {
+    let (sign, behind) = text.split_once("pi*")?;
+    let divisor = behind.find('/').unwrap_or(behind.len());
+    let (factor, divisor) = behind.split_at(divisor);
+    let is_part = ["", "+", "-"].contains(&sign) && unsigned(factor).is_some();
+    is_part.then(|| format!("{sign}{factor}pi{divisor}"))
+}
+
+/// How something is written that is nearly right, and why, by what tells what is right.
+fn mended(text: &str, is_right: fn(&str) -> bool) -> Option<(String, &'static str)> {
+    let small = text.to_ascii_lowercase();
+    let replaced = |text: String, (found, meant): &(&str, &str)| text.replace(found, meant);
+    let usual = SIGNS.iter().fold(small, replaced);
+    let usual = usual.trim_end_matches([',', ';']).to_owned();
+    let pointed = usual.replace(',', ".");
+    let radians = in_radians(&pointed).unwrap_or_default();
+    let first = factor_first(&usual).unwrap_or_default();
+    let mut all = [
+        (usual, ""),
+        (first, ""),
+        (pointed, "a point stands in front of a fraction"),
+        (radians, "an angle is in radians"),
+    ]
+    .into_iter();
+    all.find(|(text, _)| is_right(text))
+}
+
+/// That an angle is written in several words, if it is.
+fn spaced(fields: &Fields<'_>) -> Option<Fault> {
+    let words = fields.ahead(MOST_PARTS);
+    let ends = |text: &str| text.ends_with(|end: char| end.is_ascii_digit() || end == '.');
+    let begins = |text: &str| text.starts_with(|next: char| next.is_ascii_digit() || next == '.');
+    let told = |count: usize| {
+        let parts: Vec<_> = words[..count].iter().map(|word| word.text).collect();
+        let joined = parts.concat();
+        let (text, why) = match is_angle(&joined) {
+            true => (joined, ""),
+            false => mended(&joined, is_angle)?,
+        };
+        let why = if why.is_empty() {
+            "an angle has no spaces"
+        } else {
+            why
+        };
+        let mut pairs = parts.windows(2);
+        let are_numbers = pairs.any(|pair| ends(pair[0]) && begins(pair[1]));
+        let word = Word {
+            text: &parts.join(" "),
+            ..words[0]
+        };
+        (!are_numbers).then(|| word.mended(&text, why))
+    };
+    (2..=words.len()).rev().find_map(told)
+}
+
+/// What is wrong with a word that is no angle, where this is expected in place of one that is not
+/// finite.
+fn fault(word: Word<'_>, finite: &str) -> Fault {
+    let place = word.text.find("pi");
+    let behind = place.map(|place| word.from(place + "pi".len()));
+    let zero = behind.filter(|behind| divisor(behind.text) == Some(0.0));
+    match (value(word.text), zero) {
+        (Some(_), Some(behind)) => behind.fault("a divisor that is not 0"),
+        (Some(_), None) => word.fault(finite),
+        _ if is_endless(word.text) => word.fault(finite),
+        _ => match mended(word.text, is_angle) {
+            Some((text, why)) => word.mended(&text, why),
+            None => word.fault(ANGLE),
+        },
+    }
+}
+
+/// A number.
+pub fn number(word: Word<'_>, expected: &str) -> Result<f64, Fault> {
+    let number = plain(word.text).filter(|number| number.is_finite());
+    number.ok_or_else(|| match mended(word.text, is_number) {
+        Some((text, why)) => word.mended(&text, why),
+        None => word.fault(expected),
+    })
+}
+
+/// An angle in radians.
+fn parse(word: Word<'_>, finite: &str) -> Result<f64, Fault> {
+    let angle = value(word.text).filter(|angle| angle.is_finite());
+    angle.ok_or_else(|| fault(word, finite))
+}
+
+/// The next word as an angle in radians, where this is expected in place of one that is not
+/// finite.
+pub fn next(fields: &mut Fields<'_>, finite: &str) -> Result<f64, Fault> {
+    match spaced(fields) {
+        Some(fault) => Err(fault),
+        None => parse(fields.next("an angle such as 0.25 or pi/8")?, finite),
     }
 }
 
@@ -104,14 +240,23 @@ pub fn of_degrees(degrees: f64) -> String {
 #[cfg(test)]
 mod tests {
     use super::*;
+    use crate::line::Line;
 
     /// An angle that is read from the first column.
     fn read(text: &str) -> Result<f64, Fault> {
-        parse(Word {
+        let word = Word {
             text,
             line: 1,
             column: 1,
-        })
+        };
+        parse(word, FINITE)
+    }
+
+    /// What is said of the words behind the first of a line.
+    fn told(text: &str) -> String {
+        let line = Line::new(1, text);
+        let mut fields = Fields::new(&line, &[]).unwrap();
+        next(&mut fields, FINITE).unwrap_err().to_string()
     }
 
     #[test]
@@ -140,25 +285,103 @@ mod tests {
     }
 
     #[test]
-    fn degrees_are_told_in_radians() {
-        for (degrees, wanted) in [
-            (45.0, "pi/4"),
-            (-90.0, "-pi/2"),
-            (360.0, "2pi"),
-            (36.0, "pi/5"),
-            (11.25, "pi/16"),
-            (67.5, "3pi/8"),
-            (105.0, "7pi/12"),
-            (337.5, "15pi/8"),
-            (7.0, "0.12217304763960307"),
-            (1e308, "1.7453292519943295e306"),
+    fn what_is_nearly_an_angle_is_told_as_it_is_written() {
+        for (text, wanted) in [
+            ("PI/8", "pi/8, found 'PI/8'"),
+            ("-3Pi/4", "-3pi/4, found '-3Pi/4'"),
+            ("π/8", "pi/8, found 'π/8'"),
+            ("pi/8,", "pi/8, found 'pi/8,'"),
+            ("-pi*3/4", "-3pi/4, found '-pi*3/4'"),
+            ("np.pi*2", "2pi, found 'np.pi*2'"),
+            ("3*M_PI/4", "3*pi/4, found '3*M_PI/4'"),
+            ("−2·π", "-2*pi, found '−2·π'"),
+            (
+                "1,5",
+                "1.5, found '1,5': a point stands in front of a fraction",
+            ),
+            ("45°", "45pi/180, found '45°': an angle is in radians"),
+            (
+                "-4,5deg",
+                "-4.5pi/180, found '-4,5deg': an angle is in radians",
+            ),
+            (
+                "90Degrees",
+                "90pi/180, found '90Degrees': an angle is in radians",
+            ),
+            ("0.5rad", "0.5, found '0.5rad': an angle is in radians"),
+            ("pi / 8", "pi/8, found 'pi / 8': an angle has no spaces"),
+            ("3 PI/4", "3pi/4, found '3 PI/4': an angle has no spaces"),
+            (
+                "- 3 * pi / 4 if",
+                "-3*pi/4, found '- 3 * pi / 4': an angle has no spaces",
+            ),
+            ("- 0.5", "-0.5, found '- 0.5': an angle has no spaces"),
+            ("45 deg", "45pi/180, found '45 deg': an angle is in radians"),
         ] {
-            assert_eq!(of_degrees(degrees), wanted);
+            assert_eq!(
+                told(&format!("_ {text}")),
+                format!("1:3: expected {wanted}")
+            );
         }
-        // One float away from a part of pi is none.
-        for part in [45.0_f64, 60.0, 36.0, 15.0] {
-            let near = f64::from_bits(part.to_bits() + 1);
-            assert!(!of_degrees(near).contains("pi"), "{near}");
+        assert!(read("45pi/180").is_ok() && read("-2*pi").is_ok());
+        for text in [
+            "deg", "x°", "1e400deg", "1,5,2", "1/2", "rad", "2pi*3", "pi*", "pi/-2,", "°",
+        ] {
+            assert_eq!(
+                told(&format!("_ {text}")),
+                format!("1:3: expected {ANGLE}, found '{text}'")
+            );
+        }
+    }
+
+    #[test]
+    fn two_numbers_are_not_taken_for_one() {
+        for text in [
+            "0.25 0.5",
+            "1 2",
+            "1. .5",
+            "1 5pi/8",
+            "pi/8 if s1",
+            "1 if",
+            "pi/8 now",
+        ] {
+            let line = Line::new(1, &format!("_ {text}")).text();
+            let line = Line::new(1, &line);
+            let mut fields = Fields::new(&line, &[]).unwrap();
+            assert!(next(&mut fields, FINITE).is_ok(), "{text}");
+        }
+    }
+
+    #[test]
+    fn an_angle_is_finite() {
+        assert!(FINITE.contains(&format!("{:e} ", f64::MAX)));
+        assert_eq!(read(&format!("{:e}", f64::MAX)), Ok(f64::MAX));
+        for text in [
+            "1e400",
+            "-1e309",
+            "1e308pi",
+            "pi/1e-320",
+            "1e400pi",
+            "pi/1e400",
+            "1e400pi/1e400",
+            "nan",
+            "NaN",
+            "-inf",
+            "Infinity",
+            "∞",
+        ] {
+            assert_eq!(read(text).unwrap_err().expected, FINITE, "{text}");
+        }
+    }
+
+    #[test]
+    fn numbers_are_finite_too() {
+        let read = |text| number(Line::new(1, text).words[0], "a number");
+        assert_eq!(read("-1e-3"), Ok(-0.001));
+        assert_eq!(read("0,5").unwrap_err().expected, "0.5");
+        assert_eq!(read("−1").unwrap_err().expected, "-1");
+        for text in ["1e400", "nan", "pi/8", "45°", "half"] {
+            assert_eq!(read(text).unwrap_err().expected, "a number", "{text}");
         }
     }
 

@@ -201,9 +201,9 @@ pub fn pauli_of(fields: &mut Fields<'_>, width: Option<u64>, told: Told) -> Resu
 fn rotation(line: &Line<'_>, width: Option<u64>) -> Result<Record, Fault> {
     let mut fields = Fields::new(line, &["x", "z", "phase", "sin", "cos"])?;
     let pauli = pauli_of(&mut fields, width, active)?;
-    let angle = angle::parse(fields.next("an angle such as 0.25 or pi/8")?)?;
+    let angle = angle::next(&mut fields, angle::FINITE)?;
     let mut given = |name, computed| match fields.take(name) {
-        Some(word) => angle::number(word, "a number"),
+        Some(word) => angle::number(word, "a number from -1 to 1"),
         None => Ok(computed),
     };
     let (sine, cosine) = angle.sin_cos();

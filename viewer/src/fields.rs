@@ -76,6 +76,11 @@ impl<'a> Fields<'a> {
         self.others.pop_front().ok_or_else(|| line.ended(expected))
     }
 
+    /// The next words without a name, at most so many.
+    pub fn ahead(&self, most: usize) -> Vec<Word<'a>> {
+        self.others.iter().take(most).copied().collect()
+    }
+
     /// Nothing more may stand on the line.
     pub fn finish(&mut self) -> Result<(), Fault> {
         match self.others.pop_front() {

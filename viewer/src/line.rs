@@ -78,11 +78,16 @@ impl From<Fault> for Faults {
     }
 }
 
-/// Text of the file between quotes, cut if it is long, with nothing that moves a cursor.
-pub fn quoted(text: &str) -> String {
+/// Text of the file, cut if it is long, with nothing that moves a cursor.
+fn repeated(text: &str) -> String {
     let shown: String = text.chars().take(MOST_REPEATED).collect();
     let more = if shown.len() < text.len() { "..." } else { "" };
-    format!("'{}{more}'", shown.escape_debug())
+    format!("{}{more}", shown.escape_debug())
+}
+
+/// The same between quotes.
+pub fn quoted(text: &str) -> String {
+    format!("'{}'", repeated(text))
 }
 
 /// A file's name with nothing in it that moves a cursor or turns the text around.
@@ -146,6 +151,15 @@ impl<'a> Word<'a> {
             expected: expected.into(),
             found: found.into(),
         }
+    }
+
+    /// A fault at the first character that tells what to write there, and why.
+    pub fn mended(&self, text: &str, why: &str) -> Fault {
+        let found = match why {
+            "" => quoted(self.text),
+            _ => format!("{}: {why}", quoted(self.text)),
+        };
+        self.fault_found(repeated(text), found)
     }
 
     /// The whole number that the word is: decimal, or with 0x or 0b in front.

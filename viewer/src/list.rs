@@ -17,6 +17,8 @@ use crate::symbols;
 const FIRST_WORDS: &str = "width, rotate, measure, expect, record or keep";
 const MASKS: [&str; 3] = ["x", "z", "phase"];
 
+const FINITE: &str = "a finite angle from -2^20 to 2^20 such as 0.25 or pi/8";
+
 /// An operation and where it stands in the file.
 #[derive(Clone, Debug, PartialEq)]
 pub struct Queued {
@@ -257,7 +259,7 @@ fn tail(fields: &mut Fields<'_>, words: &[&str]) -> Result<Tail, Fault> {
 fn rotation(line: &Line<'_>, width: Option<u64>) -> Result<PendingOperation, Fault> {
     let mut fields = Fields::new(line, &MASKS)?;
     let pauli = string(&mut fields, width)?;
-    let kernel_angle = angle::parse(fields.next("an angle such as 0.25 or pi/8")?)?;
+    let kernel_angle = angle::next(&mut fields, FINITE)?;
     let tail = tail(&mut fields, &["if"])?;
     let pauli = SymbolicPauliString::with_sign(pauli, tail.sign.unwrap_or_default());
     Ok(PendingOperation::from(PendingPauliRotation {
@@ -532,6 +534,18 @@ mod tests {
                 "3:11: expected the Pauli to end here (the width is 2), found 'Z'",
                 "4:9: expected 2 letters, one for each position (the width is 2), found 1",
                 "5:15: expected an exponent of i, 0 to 3, found '4'"
+            ]
+        );
+    }
+
+    #[test]
+    fn an_angle_of_a_list_is_finite() {
+        assert_eq!(
+            bad("width 1\nrotate X 1e400\nrotate X PI / 8 if s1"),
+            [
+                "2:10: expected a finite angle from -2^20 to 2^20 such as 0.25 or pi/8, found \
+                 '1e400'",
+                "3:10: expected pi/8, found 'PI / 8': an angle has no spaces"
             ]
         );
     }
