@@ -5,12 +5,16 @@ use midvokt::{ActiveMeasurement, Head, Record, Rotation, LARGEST_CEILING};
 
 use crate::angle;
 use crate::fields::Fields;
-use crate::line::{quoted, Fault, Faults, Line};
+use crate::line::{one_of, quoted, Fault, Faults, Line};
 use crate::pauli::{self, active, Pauli, Told};
 
-const HEAD_WORDS: [&str; 4] = ["initial", "max", "expvals", "ceiling"];
-const FIRST_WORDS: &str = "initial, max, expvals, ceiling, rotate, promote, measure, expect, \
-                           record, detector or dormant";
+/// The words that begin a line; those of the head first.
+const FIRST_WORDS: [&str; 11] = [
+    "initial", "max", "expvals", "ceiling", "rotate", "promote", "measure", "expect", "record",
+    "detector", "dormant",
+];
+/// How many of them are the head's.
+const HEAD_WORDS: usize = 4;
 
 /// A record and where it stands in the file.
 #[derive(Clone, Debug, PartialEq)]
@@ -31,7 +35,7 @@ pub struct Circuit {
     /// What stands in front of the records.
     pub head: Head,
     /// The lines of initial, max, expvals and ceiling; 0 for one that is not given.
-    pub head_lines: [usize; 4],
+    pub head_lines: [usize; HEAD_WORDS],
     /// The records in their order.
     pub records: Vec<Placed>,
 }
@@ -56,7 +60,7 @@ impl Circuit {
 #[derive(Default)]
 struct Reader {
     /// Value and line of initial, max, expvals and ceiling.
-    head: [Option<(u64, usize)>; 4],
+    head: [Option<(u64, usize)>; HEAD_WORDS],
     /// The active coordinates; none where a bad line leaves them open.
     width: Option<u64>,
     /// The first line behind the head.
@@ -71,12 +75,25 @@ impl Reader {
         let Some(first) = line.words.first() else {
             return;
         };
-        let read = match HEAD_WORDS.iter().position(|&word| word == first.text) {
-            Some(place) => self.head_line(line, place),
-            None => self.record_line(line),
+        let read = match first.meant(&FIRST_WORDS) {
+            Some(word) => {
+                // It is read as what is meant, so that lines behind it are held to that.
+                let _ = self.words(&line.beginning(word));
+                Err(first.in_small_letters(word))
+            }
+            None => self.words(line),
         };
         if let Err(fault) = read {
             self.faults.push(fault);
+        }
+    }
+
+    /// Reads a line that says something.
+    fn words(&mut self, line: &Line<'_>) -> Result<(), Fault> {
+        let mut head = FIRST_WORDS[..HEAD_WORDS].iter();
+        match head.position(|&word| word == line.words[0].text) {
+            Some(place) => self.head_line(line, place),
+            None => self.record_line(line),
         }
     }
 
@@ -122,7 +139,7 @@ impl Reader {
             "record" => alone(line, Record::RecordMeasurement),
             "detector" => alone(line, Record::RecordDetector),
             "dormant" => alone(line, Record::DormantBranch),
-            _ => return Err(first.fault(FIRST_WORDS)),
+            _ => return Err(first.fault(one_of(&FIRST_WORDS))),
         };
         if self.first_record.is_none() {
             self.first_record = Some(line.number);
@@ -139,7 +156,7 @@ impl Reader {
 
     /// Notes what the head lacks where the records begin, or at the end of the file.
     fn head_is_whole(&mut self, line: usize, found: &str) {
-        for (place, name) in HEAD_WORDS.iter().enumerate().take(2) {
+        for (place, name) in FIRST_WORDS.iter().enumerate().take(2) {
             if self.head[place].is_none() {
                 self.faults.push(Fault {
                     line,
@@ -226,10 +243,11 @@ fn pivot_of(fields: &mut Fields<'_>) -> Result<u64, Fault> {
         Some(word) => word,
         None => {
             let name = fields.next("'pivot' and a position")?;
-            if name.text != "pivot" {
-                return Err(name.fault("'pivot' and a position"));
+            match name.meant(&["pivot"]) {
+                Some(word) => return Err(name.in_small_letters(word)),
+                None if name.text == "pivot" => fields.next("a position")?,
+                None => return Err(name.fault("'pivot' and a position")),
             }
-            fields.next("a position")?
         }
     };
     word.whole("a position")
@@ -363,6 +381,31 @@ mod tests {
             assert_eq!(told.len(), 1, "{told:?}");
         }
         assert_eq!(bad("ceiling 9 9").len(), 1);
+    }
+
+    #[test]
+    fn words_in_capitals_are_told_and_read_as_what_is_meant() {
+        let told = bad(
+            "INITIAL 2\nMax 8\nPROMOTE\nmeasure ZZZ PIVOT 2\nMeasure ZZ pivot 1\n\
+             rotate x 0.5\nrotate X PI/8 \nrotate X 0.5 SIN=0\nRecord now\nrotate XX 1",
+        );
+        let small = "words are in small letters";
+        assert_eq!(
+            told,
+            [
+                format!("1:1: expected initial, found 'INITIAL': {small}"),
+                format!("2:1: expected max, found 'Max': {small}"),
+                format!("3:1: expected promote, found 'PROMOTE': {small}"),
+                format!("4:13: expected pivot, found 'PIVOT': {small}"),
+                format!("5:1: expected measure, found 'Measure': {small}"),
+                "6:8: expected X, found 'x': letters of a Pauli are capitals".to_owned(),
+                "7:10: expected pi/8, found 'PI/8'".to_owned(),
+                format!("8:14: expected sin=0, found 'SIN=0': {small}"),
+                format!("9:1: expected record, found 'Record': {small}"),
+                "10:9: expected the Pauli to end here (1 coordinate is active), found 'X'"
+                    .to_owned(),
+            ]
+        );
     }
 
     #[test]

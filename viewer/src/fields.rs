@@ -31,6 +31,9 @@ impl<'a> Fields<'a> {
     /// Notes a word with a name.
     fn name(&mut self, word: Word<'a>, place: usize, names: &[&str]) -> Result<(), Fault> {
         let name = &word.text[..place];
+        if let Some(known) = word.front(place).meant(names) {
+            return Err(word.in_small_letters(&format!("{known}{}", &word.text[place..])));
+        }
         if !names.contains(&name) {
             let expected = match names {
                 [] => format!("no word with '=' behind '{}'", self.line.words[0].text),

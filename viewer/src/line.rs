@@ -6,6 +6,8 @@ use std::fmt;
 const MOST_REPEATED: usize = 40;
 /// The most bad lines that are told.
 const MOST_TOLD: usize = 20;
+/// What is said of a word that is known but for its letters.
+const SMALL_LETTERS: &str = "words are in small letters";
 
 /// A place in the file at which something else was expected.
 #[derive(Clone, Debug, PartialEq, Eq)]
@@ -90,6 +92,14 @@ pub fn quoted(text: &str) -> String {
     format!("'{}'", repeated(text))
 }
 
+/// Words of which one is expected.
+pub fn one_of(words: &[&str]) -> String {
+    match words {
+        [others @ .., last] if !others.is_empty() => format!("{} or {last}", others.join(", ")),
+        _ => words.concat(),
+    }
+}
+
 /// A file's name with nothing in it that moves a cursor or turns the text around.
 pub fn visible(name: &str) -> String {
     let turns = |character: char| matches!(character, '\u{61c}' | '\u{200e}' | '\u{200f}' | '\u{2028}'..='\u{202e}' | '\u{2066}'..='\u{2069}');
@@ -162,6 +172,17 @@ impl<'a> Word<'a> {
         self.fault_found(repeated(text), found)
     }
 
+    /// A fault that tells the word to write in small letters.
+    pub fn in_small_letters(&self, text: &str) -> Fault {
+        self.mended(text, SMALL_LETTERS)
+    }
+
+    /// The one of these words that this is but for capitals.
+    pub fn meant<'w>(&self, words: &[&'w str]) -> Option<&'w str> {
+        let mut words = words.iter().copied();
+        words.find(|word| word.eq_ignore_ascii_case(self.text) && *word != self.text)
+    }
+
     /// The whole number that the word is: decimal, or with 0x or 0b in front.
     pub fn whole(&self, expected: &str) -> Result<u64, Fault> {
         let (digits, radix) = match self.text.get(..2) {
@@ -213,6 +234,15 @@ impl<'a> Line<'a> {
             .last()
             .map_or(1, |word| word.column + word.text.chars().count());
         Self { number, words, end }
+    }
+
+    /// The same line with another first word, if it has one.
+    pub fn beginning(&self, word: &'a str) -> Self {
+        let mut line = self.clone();
+        if let Some(first) = line.words.first_mut() {
+            first.text = word;
+        }
+        line
     }
 
     /// The words with one space between.
@@ -288,6 +318,30 @@ mod tests {
         assert!(faults.text("f").ends_with("\nf: 1 more bad line\n"));
         faults.push(word(22).fault("y"));
         assert!(faults.text("f").ends_with("\nf: 2 more bad lines\n"));
+    }
+
+    #[test]
+    fn capitals_are_told_with_the_word_that_is_meant() {
+        let word = |text| Line::new(1, text).words[0];
+        let known = ["rotate", "if"];
+        assert_eq!(word("Rotate").meant(&known), Some("rotate"));
+        assert_eq!(word("IF").meant(&known), Some("if"));
+        assert_eq!(word("if").meant(&known), None);
+        assert_eq!(word("iff").meant(&known), None);
+        assert_eq!(
+            word("IF").in_small_letters("if").to_string(),
+            "1:1: expected if, found 'IF': words are in small letters"
+        );
+        assert_eq!(word("IF").mended("if", "").found, "'IF'");
+        let line = Line::new(1, "Rotate X");
+        assert_eq!(line.beginning("rotate").text(), "rotate X");
+    }
+
+    #[test]
+    fn choices_are_listed() {
+        assert_eq!(one_of(&[]), "");
+        assert_eq!(one_of(&["a"]), "a");
+        assert_eq!(one_of(&["a", "b", "c"]), "a, b or c");
     }
 
     #[test]

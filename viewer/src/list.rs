@@ -10,11 +10,12 @@ use midvokt::{
 use crate::angle;
 use crate::circuit::{pauli_of, text_of};
 use crate::fields::Fields;
-use crate::line::{quoted, Fault, Faults, Line, Word};
+use crate::line::{one_of, quoted, Fault, Faults, Line, Word};
 use crate::pauli;
 use crate::symbols;
 
-const FIRST_WORDS: &str = "width, rotate, measure, expect, record or keep";
+/// The words that begin a line.
+const FIRST_WORDS: [&str; 6] = ["width", "rotate", "measure", "expect", "record", "keep"];
 const MASKS: [&str; 3] = ["x", "z", "phase"];
 
 const FINITE: &str = "a finite angle from -2^20 to 2^20 such as 0.25 or pi/8";
@@ -75,12 +76,24 @@ impl Reader {
         let Some(first) = line.words.first() else {
             return;
         };
-        let read = match first.text {
-            "width" => self.width_line(line),
-            _ => self.further_line(line),
+        let read = match first.meant(&FIRST_WORDS) {
+            Some(word) => {
+                // It is read as what is meant, so that lines behind it are held to that.
+                let _ = self.words(&line.beginning(word));
+                Err(first.in_small_letters(word))
+            }
+            None => self.words(line),
         };
         if let Err(fault) = read {
             self.faults.push(fault);
+        }
+    }
+
+    /// Reads a line that says something.
+    fn words(&mut self, line: &Line<'_>) -> Result<(), Fault> {
+        match line.words[0].text {
+            "width" => self.width_line(line),
+            _ => self.further_line(line),
         }
     }
 
@@ -114,7 +127,7 @@ impl Reader {
             "expect" => expectation(line, width),
             "record" => classical(line),
             "keep" => return self.keep(line),
-            _ => return Err(first.fault(FIRST_WORDS)),
+            _ => return Err(first.fault(one_of(&FIRST_WORDS))),
         };
         self.begin(line);
         // A bad operation counts, so that boundaries stay where they are.
@@ -228,6 +241,9 @@ fn once<T>(place: &mut Option<T>, word: Word<'_>, value: T) -> Result<(), Fault>
 fn tail(fields: &mut Fields<'_>, words: &[&str]) -> Result<Tail, Fault> {
     let mut tail = Tail::default();
     while let Some(word) = fields.peek() {
+        if let Some(known) = word.meant(words) {
+            return Err(word.in_small_letters(known));
+        }
         if !words.contains(&word.text) {
             return Err(word.fault(format!("{} or the end of the line", words.join(", "))));
         }
@@ -534,6 +550,32 @@ mod tests {
                 "3:11: expected the Pauli to end here (the width is 2), found 'Z'",
                 "4:9: expected 2 letters, one for each position (the width is 2), found 1",
                 "5:15: expected an exponent of i, 0 to 3, found '4'"
+            ]
+        );
+    }
+
+    #[test]
+    fn words_in_capitals_are_told_and_read_as_what_is_meant() {
+        let told = bad(
+            "WIDTH 2\nRotate X0 1\nmeasure Z0 Record 1\nrotate X0 1 IF s1\n\
+             rotate X0 1 if NOT s1\nmeasure Z0 as S4\nrecord s1^S2\nrotate X=1 1\n\
+             rotate z2 1\nrotate Z2 1\nKEEP",
+        );
+        let small = "words are in small letters";
+        assert_eq!(
+            told,
+            [
+                format!("1:1: expected width, found 'WIDTH': {small}"),
+                format!("2:1: expected rotate, found 'Rotate': {small}"),
+                format!("3:12: expected record, found 'Record': {small}"),
+                format!("4:13: expected if, found 'IF': {small}"),
+                format!("5:16: expected not, found 'NOT': {small}"),
+                format!("6:15: expected s4, found 'S4': {small}"),
+                format!("7:11: expected s2, found 'S2': {small}"),
+                format!("8:8: expected x=1, found 'X=1': {small}"),
+                "9:8: expected Z2, found 'z2': letters of a Pauli are capitals".to_owned(),
+                "10:9: expected a position below 2 (the width is 2), found '2'".to_owned(),
+                format!("11:1: expected keep, found 'KEEP': {small}"),
             ]
         );
     }

@@ -10,6 +10,7 @@ use crate::line::{Fault, Word};
 const MASK_BITS: u64 = u64::BITS as u64;
 
 const LETTERS: &str = "X, Y, Z, I or _";
+const CAPITALS: &str = "letters of a Pauli are capitals";
 
 /// A Pauli as a record has it.
 #[derive(Clone, Copy, Debug, Default, PartialEq, Eq)]
@@ -124,6 +125,27 @@ pub fn active(width: u64) -> String {
     }
 }
 
+/// Whether text is a factor of a product: a letter and digits.
+fn is_factor(text: &str) -> bool {
+    let digits = text.strip_prefix(['X', 'Y', 'Z', 'I']).unwrap_or("");
+    !digits.is_empty() && digits.chars().all(|digit| digit.is_ascii_digit())
+}
+
+/// A Pauli in which letters are small, with capitals; none for one that is right, and for a word
+/// that is none. An i in front may be a letter or the imaginary sign.
+fn in_capitals(text: &str, width: Option<u64>) -> Option<String> {
+    let rest = text.strip_prefix(['+', '-']).unwrap_or(text);
+    let behind = rest.strip_prefix('i').unwrap_or(rest);
+    let is_letter =
+        behind.starts_with(|next: char| next.is_ascii_digit()) || width == Some(rest.len() as u64);
+    let letters = if is_letter { rest } else { behind };
+    let capitals = letters.to_ascii_uppercase();
+    let is_string = capitals.chars().all(|letter| "XYZI_".contains(letter));
+    let is_pauli = is_string || capitals.split('*').all(is_factor);
+    let front = &text[..text.len() - letters.len()];
+    (is_pauli && capitals != letters).then(|| format!("{front}{capitals}"))
+}
+
 /// The bit of a position; a letter that acts needs one.
 fn bit(place: Word<'_>, letter: char, position: u64) -> Result<u64, Fault> {
     if position < MASK_BITS {
@@ -205,6 +227,9 @@ fn read_product(
 /// The Pauli of a word over so many positions, of which a fault tells in these words. Where their
 /// number is not known, since an earlier line is bad, the length is held to nothing.
 pub fn parse(word: Word<'_>, width: Option<u64>, told: Told) -> Result<Pauli, Fault> {
+    if let Some(text) = in_capitals(word.text, width) {
+        return Err(word.mended(&text, CAPITALS));
+    }
     let (phase, bytes) = sign(word.text);
     let mut pauli = Pauli {
         phase,
@@ -276,6 +301,33 @@ mod tests {
         assert_eq!(columns("X0*Z", 3), 5);
         assert_eq!(columns("X64", 70), 1);
         assert_eq!(columns(&format!("{}X", "_".repeat(64)), 65), 65);
+    }
+
+    #[test]
+    fn small_letters_are_told_with_capitals() {
+        for (text, width, wanted) in [
+            ("xiz", 3, "XIZ"),
+            ("x0*x1", 2, "X0*X1"),
+            ("-z", 1, "-Z"),
+            ("XiZ", 3, "XIZ"),
+            ("ixz", 3, "IXZ"),
+            ("ixz", 2, "iXZ"),
+            ("-iXZ", 3, "-IXZ"),
+            ("iz", 9, "iZ"),
+            ("i0*X1", 2, "I0*X1"),
+            ("-iy0*Z1", 2, "-iY0*Z1"),
+            ("x7", 2, "X7"),
+        ] {
+            let told = read(text, width).unwrap_err().to_string();
+            let wanted = format!("1:1: expected {wanted}, found '{text}': {CAPITALS}");
+            assert_eq!(told, wanted);
+        }
+        for (text, width) in [("iXZ", 2), ("-iX0", 1), ("i", 0), ("iIZ", 2)] {
+            assert!(read(text, width).is_ok(), "{text}");
+        }
+        for text in ["xq", "if", "x0x1", "i", "x0*", "é", ""] {
+            assert_eq!(in_capitals(text, None), None, "{text}");
+        }
     }
 
     #[test]

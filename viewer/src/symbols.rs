@@ -17,6 +17,9 @@ pub fn number(word: Word<'_>, expected: &str) -> Result<i32, Fault> {
 
 /// A symbol's number behind its s.
 pub fn symbol(word: Word<'_>, expected: &str) -> Result<i32, Fault> {
+    if word.text.starts_with('S') && word.from(1).whole("").is_ok() {
+        return Err(word.in_small_letters(&word.text.to_ascii_lowercase()));
+    }
     if !word.text.starts_with('s') {
         return Err(word.fault(expected));
     }
@@ -50,6 +53,9 @@ fn add(sign: &mut SymbolicBool, term: Word<'_>) -> Result<(), Fault> {
 /// The next word, or two with 'not' in front, as a sign. Its symbols may come in any order.
 pub fn parse(fields: &mut Fields<'_>) -> Result<SymbolicBool, Fault> {
     let first = fields.next(SIGN)?;
+    if let Some(known) = first.meant(&["not"]) {
+        return Err(first.in_small_letters(known));
+    }
     let is_negated = first.text == "not";
     let word = match is_negated {
         true => fields.next(SIGN)?,
