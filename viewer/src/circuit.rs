@@ -15,6 +15,13 @@ const FIRST_WORDS: [&str; 11] = [
 ];
 /// How many of them are the head's.
 const HEAD_WORDS: usize = 4;
+/// The numbers that may stand behind each word of the head.
+const HEAD_NUMBERS: [&str; HEAD_WORDS] = [
+    "a whole number from 0 to 512",
+    "a whole number from 0 to 61, below the ceiling",
+    "a whole number below 2^64",
+    "a whole number from 1 to 62",
+];
 
 /// A record and where it stands in the file.
 #[derive(Clone, Debug, PartialEq)]
@@ -111,7 +118,8 @@ impl Reader {
         // A bad value counts as given, so that nothing more is said of it.
         self.head[place] = Some((0, line.number));
         let mut fields = Fields::new(line, &[])?;
-        let value = fields.next("a whole number")?.whole("a whole number")?;
+        let expected = HEAD_NUMBERS[place];
+        let value = fields.next(expected)?.whole(expected)?;
         fields.finish()?;
         self.head[place] = Some((value, line.number));
         if place == 0 {
@@ -190,13 +198,19 @@ impl Reader {
     }
 }
 
+/// A mask of a Pauli that is given as numbers.
+const MASK: &str = "a mask below 2^64 such as 5, 0x5 or 0b101";
+/// The phase of such a Pauli.
+pub const EXPONENT: &str = "an exponent of i, 0 to 3";
+
 /// The Pauli of a line: a word, or numbers. A fault tells the width in these words.
 pub fn pauli_of(fields: &mut Fields<'_>, width: Option<u64>, told: Told) -> Result<Pauli, Fault> {
-    let mut number = |name| match fields.take(name) {
-        Some(word) => word.whole("a whole number").map(Some),
+    let mut number = |name, expected| match fields.take(name) {
+        Some(word) => word.whole(expected).map(Some),
         None => Ok(None),
     };
-    let (x, z, phase) = (number("x")?, number("z")?, number("phase")?);
+    let (x, z) = (number("x", MASK)?, number("z", MASK)?);
+    let phase = number("phase", EXPONENT)?;
     if x.or(z).or(phase).is_some() {
         if let Some(word) = fields.peek().filter(|word| pauli::begins(word.text)) {
             return Err(word.fault("no Pauli beside x=, z= or phase="));
@@ -237,20 +251,22 @@ fn rotation(line: &Line<'_>, width: Option<u64>) -> Result<Record, Fault> {
     }))
 }
 
-/// The position whose coordinate leaves: pivot N or pivot=N.
-fn pivot_of(fields: &mut Fields<'_>) -> Result<u64, Fault> {
+/// The position, of so many, whose coordinate leaves: pivot N or pivot=N.
+fn pivot_of(fields: &mut Fields<'_>, width: Option<u64>) -> Result<u64, Fault> {
+    let position = pauli::position(width, active);
     let word = match fields.take("pivot") {
         Some(word) => word,
         None => {
-            let name = fields.next("'pivot' and a position")?;
+            let expected = format!("'pivot' and {position}");
+            let name = fields.next(&expected)?;
             match name.meant(&["pivot"]) {
                 Some(word) => return Err(name.in_small_letters(word)),
-                None if name.text == "pivot" => fields.next("a position")?,
-                None => return Err(name.fault("'pivot' and a position")),
+                None if name.text == "pivot" => fields.next(&position)?,
+                None => return Err(name.fault(expected)),
             }
         }
     };
-    word.whole("a position")
+    word.whole(&position)
 }
 
 /// A measurement or an expectation.
@@ -269,7 +285,7 @@ fn measured(width: Option<u64>, pauli: Pauli, pivot: u64, expectation: bool) -> 
 fn measurement(line: &Line<'_>, width: Option<u64>) -> Result<Record, Fault> {
     let mut fields = Fields::new(line, &["x", "z", "phase", "pivot"])?;
     let pauli = pauli_of(&mut fields, width, active)?;
-    let pivot = pivot_of(&mut fields)?;
+    let pivot = pivot_of(&mut fields, width)?;
     fields.finish()?;
     Ok(measured(width, pauli, pivot, false))
 }
@@ -377,7 +393,8 @@ mod tests {
         );
         for (text, found) in [("ceiling", "the end of the line"), ("ceiling -1", "'-1'")] {
             let told = bad(text);
-            assert!(told[0].ends_with(&format!("expected a whole number, found {found}")));
+            let wanted = format!("expected a whole number from 1 to 62, found {found}");
+            assert!(told[0].ends_with(&wanted), "{told:?}");
             assert_eq!(told.len(), 1, "{told:?}");
         }
         assert_eq!(bad("ceiling 9 9").len(), 1);
@@ -406,6 +423,57 @@ mod tests {
                     .to_owned(),
             ]
         );
+    }
+
+    #[test]
+    fn numbers_are_told_with_their_limits() {
+        let head = |text: &str| bad(&format!("{text}\ninitial 2\nmax 8"))[0].clone();
+        for (text, limits) in [
+            (
+                "initial 18446744073709551616",
+                "a whole number from 0 to 512",
+            ),
+            ("max 7.5", "a whole number from 0 to 61, below the ceiling"),
+            ("expvals -1", "a whole number below 2^64"),
+            ("ceiling 1e9", "a whole number from 1 to 62"),
+        ] {
+            let (word, found) = text.split_once(' ').unwrap();
+            let column = word.len() + 2;
+            assert_eq!(
+                head(text),
+                format!("1:{column}: expected {limits}, found '{found}'")
+            );
+        }
+        let record = |text: &str| bad(&format!("initial 2\nmax 8\n{text}"))[0].clone();
+        for (text, wanted) in [
+            (
+                "measure ZZ pivot x",
+                "18: expected a position below 2 (2 coordinates are active), found 'x'",
+            ),
+            (
+                "measure ZZ pivot=-1",
+                "18: expected a position below 2 (2 coordinates are active), found '-1'",
+            ),
+            (
+                "measure ZZ",
+                "11: expected 'pivot' and a position below 2 (2 coordinates are active), found \
+                 the end of the line",
+            ),
+            (
+                "rotate x=-1 1",
+                "10: expected a mask below 2^64 such as 5, 0x5 or 0b101, found '-1'",
+            ),
+            (
+                "rotate phase=i 1",
+                "14: expected an exponent of i, 0 to 3, found 'i'",
+            ),
+            (
+                "rotate XX 1 sin=1e400",
+                "17: expected a number from -1 to 1, found '1e400'",
+            ),
+        ] {
+            assert_eq!(record(text), format!("3:{wanted}"));
+        }
     }
 
     #[test]

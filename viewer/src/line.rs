@@ -54,6 +54,13 @@ impl Faults {
         }
     }
 
+    /// Adds a place in front of the others.
+    pub fn put_first(&mut self, fault: Fault) {
+        self.count += 1;
+        self.told.insert(0, fault);
+        self.told.truncate(MOST_TOLD);
+    }
+
     /// Whether nothing is bad.
     pub fn is_empty(&self) -> bool {
         self.count == 0
@@ -183,19 +190,19 @@ impl<'a> Word<'a> {
         words.find(|word| word.eq_ignore_ascii_case(self.text) && *word != self.text)
     }
 
-    /// The whole number that the word is: decimal, or with 0x or 0b in front.
+    /// The whole number that the word is: decimal, or with 0x or 0b in front. What is expected
+    /// names the numbers that may stand there.
     pub fn whole(&self, expected: &str) -> Result<u64, Fault> {
         let (digits, radix) = match self.text.get(..2) {
             Some("0x") => (&self.text[2..], 16),
             Some("0b") => (&self.text[2..], 2),
             _ => (self.text, 10),
         };
-        let plain = !digits.is_empty() && digits.chars().all(|digit| digit.is_digit(radix));
-        match u64::from_str_radix(digits, radix) {
-            Ok(number) if plain => Ok(number),
-            _ if plain => Err(self.fault(format!("{expected} below 2^64"))),
-            _ => Err(self.fault(expected)),
-        }
+        let is_plain = digits.chars().all(|digit| digit.is_digit(radix));
+        let number = u64::from_str_radix(digits, radix).ok();
+        number
+            .filter(|_| is_plain)
+            .ok_or_else(|| self.fault(expected))
     }
 }
 
@@ -294,11 +301,16 @@ mod tests {
         assert_eq!(read("0x1f"), Ok(31));
         assert_eq!(read("0b101"), Ok(5));
         assert_eq!(read("18446744073709551615"), Ok(u64::MAX));
-        assert_eq!(
-            read("18446744073709551616").unwrap_err().expected,
-            "a number below 2^64"
-        );
-        for bad in ["+1", "-1", "1.0", "0x", "0b2", "x", "0x+1"] {
+        for bad in [
+            "18446744073709551616",
+            "+1",
+            "-1",
+            "1.0",
+            "0x",
+            "0b2",
+            "x",
+            "0x+1",
+        ] {
             assert_eq!(read(bad).unwrap_err().expected, "a number", "{bad}");
         }
     }
@@ -314,8 +326,10 @@ mod tests {
         let told = faults.text("f");
         assert_eq!(told.lines().count(), 20);
         assert!(told.ends_with("f:21:1: expected y, found 'x'\n"), "{told}");
-        faults.push(word(22).fault("y"));
-        assert!(faults.text("f").ends_with("\nf: 1 more bad line\n"));
+        faults.put_first(word(1).fault("y"));
+        let told = faults.text("f");
+        assert!(told.starts_with("f:1:1: expected y, found 'x'\nf:2:1:"));
+        assert!(told.ends_with("f:20:1: expected y, found 'x'\nf: 1 more bad line\n"));
         faults.push(word(22).fault("y"));
         assert!(faults.text("f").ends_with("\nf: 2 more bad lines\n"));
     }

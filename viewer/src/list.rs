@@ -4,11 +4,11 @@
 
 use midvokt::{
     PauliString, PendingClassicalRecord, PendingOperation, PendingPauliMeasurement,
-    PendingPauliRotation, SymbolicBool, SymbolicPauliString,
+    PendingPauliRotation, SymbolicBool, SymbolicPauliString, MOST_QUBITS,
 };
 
 use crate::angle;
-use crate::circuit::{pauli_of, text_of};
+use crate::circuit::{pauli_of, text_of, EXPONENT};
 use crate::fields::Fields;
 use crate::line::{one_of, quoted, Fault, Faults, Line, Word};
 use crate::pauli;
@@ -18,6 +18,11 @@ use crate::symbols;
 const FIRST_WORDS: [&str; 6] = ["width", "rotate", "measure", "expect", "record", "keep"];
 const MASKS: [&str; 3] = ["x", "z", "phase"];
 
+const WIDTH: &str = "a width from 1 to 64";
+const PREFIX: &str = "a number of operations, from 0 to the list's (1,024 at most), or the end \
+                      of the line";
+const RECORD: &str = "the number of a record, 0 to 2,147,483,647";
+const VALUE: &str = "the number of an expectation value, 0 to 2,147,483,647";
 const FINITE: &str = "a finite angle from -2^20 to 2^20 such as 0.25 or pi/8";
 
 /// An operation and where it stands in the file.
@@ -58,6 +63,8 @@ pub struct List {
 struct Reader {
     /// The width and its line; the width is none where it is bad.
     width: Option<(Option<u64>, usize)>,
+    /// That no list may have this width, said only where something else is bad.
+    far_width: Option<Fault>,
     /// The first line behind it.
     first: Option<usize>,
     operations: Vec<Queued>,
@@ -97,6 +104,12 @@ impl Reader {
         }
     }
 
+    /// How many qubits the strings have; none where no list may have so many.
+    fn qubits(&self) -> Option<u64> {
+        let width = self.width.and_then(|(width, _)| width);
+        width.filter(|_| self.far_width.is_none())
+    }
+
     /// The line of the width.
     fn width_line(&mut self, line: &Line<'_>) -> Result<(), Fault> {
         let first = line.words[0];
@@ -111,16 +124,19 @@ impl Reader {
         // A bad value counts as given, so that nothing more is said of it.
         self.width = Some((None, line.number));
         let mut fields = Fields::new(line, &[])?;
-        let value = fields.next("a whole number")?.whole("a whole number")?;
+        let word = fields.next(WIDTH)?;
+        let value = word.whole(WIDTH)?;
         fields.finish()?;
         self.width = Some((Some(value), line.number));
+        let is_far = !(1..=MOST_QUBITS as u64).contains(&value);
+        self.far_width = is_far.then(|| word.fault(WIDTH));
         Ok(())
     }
 
     /// A line behind the width.
     fn further_line(&mut self, line: &Line<'_>) -> Result<(), Fault> {
         let first = line.words[0];
-        let width = self.width.and_then(|(width, _)| width);
+        let width = self.qubits();
         let read = match first.text {
             "rotate" => rotation(line, width),
             "measure" => measurement(line, width),
@@ -146,10 +162,7 @@ impl Reader {
         let mut fields = Fields::new(line, &[])?;
         let prefix = match fields.is_empty() {
             true => self.operations.len() as u64,
-            false => {
-                let expected = "a number of operations, or the end of the line";
-                fields.next(expected)?.whole(expected)?
-            }
+            false => fields.next(PREFIX)?.whole(PREFIX)?,
         };
         fields.finish()?;
         let line = line.number;
@@ -182,6 +195,9 @@ impl Reader {
         if self.first.is_none() {
             self.width_is_there(lines + 1, "the end of the file");
         }
+        if let Some(fault) = self.far_width.filter(|_| !self.faults.is_empty()) {
+            self.faults.put_first(fault);
+        }
         match self.width {
             Some((Some(width), width_line)) if self.faults.is_empty() => Ok(List {
                 width,
@@ -204,7 +220,7 @@ fn string(fields: &mut Fields<'_>, width: Option<u64>) -> Result<PauliString, Fa
     let given = fields.named("phase");
     let found = pauli_of(fields, width, told)?;
     match (given, found.phase) {
-        (Some(word), 4..) => Err(word.fault("an exponent of i, 0 to 3")),
+        (Some(word), 4..) => Err(word.fault(EXPONENT)),
         (_, phase) => {
             let width = width.unwrap_or(0) as usize;
             Ok(PauliString::from_masks(
@@ -250,21 +266,9 @@ fn tail(fields: &mut Fields<'_>, words: &[&str]) -> Result<Tail, Fault> {
         fields.next("")?;
         match word.text {
             "if" => once(&mut tail.sign, word, symbols::parse(fields)?)?,
-            "as" => {
-                let expected = "a symbol such as s7";
-                let symbol = symbols::symbol(fields.next(expected)?, expected)?;
-                once(&mut tail.symbol, word, symbol)?;
-            }
-            "value" => {
-                let expected = "the number of an expectation value";
-                let value = symbols::number(fields.next(expected)?, expected)?;
-                once(&mut tail.value, word, value)?;
-            }
-            _ => {
-                let expected = "the number of a record";
-                let record = symbols::number(fields.next(expected)?, expected)?;
-                once(&mut tail.record, word, record)?;
-            }
+            "as" => once(&mut tail.symbol, word, symbols::next(fields)?)?,
+            "value" => once(&mut tail.value, word, symbols::number(fields, VALUE)?)?,
+            _ => once(&mut tail.record, word, symbols::number(fields, RECORD)?)?,
         }
     }
     fields.finish()?;
@@ -308,7 +312,7 @@ fn expectation(line: &Line<'_>, width: Option<u64>) -> Result<PendingOperation, 
     let tail = tail(&mut fields, &["value", "record", "as", "if"])?;
     match tail.value {
         Some(_) => Ok(measured(pauli, tail)),
-        None => Err(line.ended("'value' and the number of an expectation value")),
+        None => Err(line.ended(format!("'value' and {VALUE}"))),
     }
 }
 
@@ -513,8 +517,10 @@ mod tests {
             "2:1: expected width, rotate, measure, expect, record or keep, found 'rotat'",
             "3:10: expected an angle such as 0.25 or pi/8, found the end of the line",
             "4:12: expected record, as, if or the end of the line, found 'to'",
-            "5:10: expected 'value' and the number of an expectation value, found the end of the line",
-            "6:6: expected a number of operations, or the end of the line, found 'x'",
+            "5:10: expected 'value' and the number of an expectation value, 0 to 2,147,483,647, \
+             found the end of the line",
+            "6:6: expected a number of operations, from 0 to the list's (1,024 at most), or the \
+             end of the line, found 'x'",
             "7:7: expected s1^s3, not s1^s3, 0 or 1, found the end of the line",
         ];
         assert_eq!(told, wanted);
@@ -581,6 +587,36 @@ mod tests {
     }
 
     #[test]
+    fn a_width_that_no_list_may_have_is_told_where_something_is_bad() {
+        for (width, line, found) in [
+            (
+                "65",
+                "rotate X64 1",
+                "2:8: expected nothing to act at position 64",
+            ),
+            ("0", "rotate x0 1", "2:8: expected X0"),
+            (
+                "18446744073709551615",
+                "keep -1",
+                "2:6: expected a number of operations",
+            ),
+        ] {
+            let told = bad(&format!("width {width}\n{line}"));
+            assert_eq!(told.len(), 2, "{told:?}");
+            let wanted = format!("1:7: expected a width from 1 to 64, found '{width}'");
+            assert_eq!(told[0], wanted);
+            assert!(told[1].starts_with(found), "{told:?}");
+        }
+        for text in ["65\nrotate X63 1", "65\nrotate XX 1", "0\nmeasure Z5"] {
+            assert_eq!(good(&format!("width {text}")).operations.len(), 1);
+        }
+        assert_eq!(
+            bad("width -1\nrotate X70 1")[0],
+            "1:7: expected a width from 1 to 64, found '-1'"
+        );
+    }
+
+    #[test]
     fn an_angle_of_a_list_is_finite() {
         assert_eq!(
             bad("width 1\nrotate X 1e400\nrotate X PI / 8 if s1"),
@@ -598,7 +634,7 @@ mod tests {
             bad("width 1\nmeasure Z0 as s1 as s2\nrecord 0 to 2147483648"),
             [
                 "2:18: expected 'as' once, found 'as' again",
-                "3:13: expected the number of a record below 2^31, found '2147483648'"
+                "3:13: expected the number of a record, 0 to 2,147,483,647, found '2147483648'"
             ]
         );
     }

@@ -73,8 +73,8 @@ struct Answer {
     status: u8,
 }
 
-/// The circuit or the list that a file holds, by the way to read it, or all that is to be said of the
-/// file.
+/// The circuit or the list that a file holds, by the way to read it, or all that is to be said of
+/// it.
 fn read<T>(
     path: &Path,
     name: &str,

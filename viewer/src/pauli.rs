@@ -125,6 +125,15 @@ pub fn active(width: u64) -> String {
     }
 }
 
+/// A position among so many, in words.
+pub fn position(width: Option<u64>, told: Told) -> String {
+    match width {
+        None => "a position".to_owned(),
+        Some(0) => format!("a position ({})", told(0)),
+        Some(width) => format!("a position below {width} ({})", told(width)),
+    }
+}
+
 /// Whether text is a factor of a product: a letter and digits.
 fn is_factor(text: &str) -> bool {
     let digits = text.strip_prefix(['X', 'Y', 'Z', 'I']).unwrap_or("");
@@ -188,12 +197,10 @@ fn read_string(
     }
 }
 
-/// One factor of a product: its letter and its position.
-fn read_factor(factor: Word<'_>) -> Result<(char, u64), Fault> {
+/// One factor of a product: its letter and its position, of which this is expected.
+fn read_factor(factor: Word<'_>, position: &str) -> Result<(char, u64), Fault> {
     match factor.text.chars().next() {
-        Some(letter) if "XYZI".contains(letter) => {
-            Ok((letter, factor.from(1).whole("a position")?))
-        }
+        Some(letter) if "XYZI".contains(letter) => Ok((letter, factor.from(1).whole(position)?)),
         _ => Err(factor.fault("a Pauli factor such as X0 (X, Y, Z or I, then a position)")),
     }
 }
@@ -205,16 +212,20 @@ fn read_product(
     told: Told,
     pauli: &mut Pauli,
 ) -> Result<(), Fault> {
+    if width == Some(0) {
+        return Err(body.fault(format!("the Pauli to end here ({})", told(0))));
+    }
+    let expected = position(width, told);
     let mut seen = HashSet::new();
     let (mut byte, mut column) = (0, 0);
     for text in body.text.split('*') {
         let factor = body.at(byte, column).front(text.len());
         byte += text.len() + 1;
         column += text.chars().count() + 1;
-        let (letter, position) = read_factor(factor)?;
+        let (letter, position) = read_factor(factor, &expected)?;
         let place = factor.from(1);
-        if let Some(width) = width.filter(|&width| position >= width) {
-            return Err(place.fault(format!("a position below {width} ({})", told(width))));
+        if width.is_some_and(|width| position >= width) {
+            return Err(place.fault(expected));
         }
         if !seen.insert(position) {
             return Err(place.fault_found("each position once", format!("{position} again")));
@@ -328,6 +339,24 @@ mod tests {
         for text in ["xq", "if", "x0x1", "i", "x0*", "é", ""] {
             assert_eq!(in_capitals(text, None), None, "{text}");
         }
+    }
+
+    #[test]
+    fn positions_have_their_limits() {
+        let told = |text, width| read(text, width).unwrap_err().to_string();
+        assert_eq!(
+            told("X0*Zb", 2),
+            "1:5: expected a position below 2 (2 coordinates are active), found 'b'"
+        );
+        assert_eq!(
+            told("X0", 0),
+            "1:1: expected the Pauli to end here (no coordinate is active), found 'X0'"
+        );
+        assert_eq!(
+            position(Some(0), active),
+            "a position (no coordinate is active)"
+        );
+        assert_eq!(position(None, active), "a position");
     }
 
     #[test]

@@ -7,23 +7,36 @@ use crate::fields::Fields;
 use crate::line::{Fault, Word};
 
 const SIGN: &str = "s1^s3, not s1^s3, 0 or 1";
-const TERM: &str = "a symbol such as s7, 0 or 1";
+const TERM: &str = "a symbol such as s7 (s1 to s2147483647), 0 or 1";
+const SYMBOL: &str = "a symbol such as s7 (s0 to s2147483647)";
 
 /// A number that a field of an operation holds.
-pub fn number(word: Word<'_>, expected: &str) -> Result<i32, Fault> {
+fn held(word: Word<'_>, expected: &str) -> Result<i32, Fault> {
     let number = word.whole(expected)?;
-    i32::try_from(number).map_err(|_| word.fault(format!("{expected} below 2^31")))
+    i32::try_from(number).map_err(|_| word.fault(expected))
+}
+
+/// The next word as a number that a field of an operation holds.
+pub fn number(fields: &mut Fields<'_>, expected: &str) -> Result<i32, Fault> {
+    held(fields.next(expected)?, expected)
 }
 
 /// A symbol's number behind its s.
-pub fn symbol(word: Word<'_>, expected: &str) -> Result<i32, Fault> {
-    if word.text.starts_with('S') && word.from(1).whole("").is_ok() {
-        return Err(word.in_small_letters(&word.text.to_ascii_lowercase()));
+fn symbol(word: Word<'_>, expected: &str) -> Result<i32, Fault> {
+    let number = |first: char| match word.text.starts_with(first) {
+        true => held(word.from(1), expected).ok(),
+        false => None,
+    };
+    match (number('s'), number('S')) {
+        (Some(number), _) => Ok(number),
+        (None, Some(_)) => Err(word.in_small_letters(&word.text.to_ascii_lowercase())),
+        (None, None) => Err(word.fault(expected)),
     }
-    if !word.text.starts_with('s') {
-        return Err(word.fault(expected));
-    }
-    number(word.from(1), "the number of a symbol")
+}
+
+/// The next word as a symbol.
+pub fn next(fields: &mut Fields<'_>) -> Result<i32, Fault> {
+    symbol(fields.next(SYMBOL)?, SYMBOL)
 }
 
 /// Adds one term of an exclusive or.
@@ -131,6 +144,7 @@ mod tests {
             told("if s1^"),
             format!("1:7: expected {TERM}, found nothing")
         );
+        assert_eq!(told("if s"), format!("1:4: expected {TERM}, found 's'"));
         assert_eq!(
             told("if s0"),
             "1:4: expected a symbol from s1 on, found 's0'"
@@ -141,7 +155,7 @@ mod tests {
         );
         assert_eq!(
             told("if s2147483648"),
-            "1:5: expected the number of a symbol below 2^31, found '2147483648'"
+            format!("1:4: expected {TERM}, found 's2147483648'")
         );
         assert_eq!(
             told("if s1^s2^s3^s4^s5^s6^s7^s8^s9"),
