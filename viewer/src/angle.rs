@@ -284,53 +284,55 @@ mod tests {
         );
     }
 
+    /// Holds what is said of an angle to this.
+    fn tells(text: &str, wanted: &str) {
+        let told = told(&format!("_ {text}"));
+        assert_eq!(told, format!("1:3: expected {wanted}"));
+    }
+
     #[test]
     fn what_is_nearly_an_angle_is_told_as_it_is_written() {
         for (text, wanted) in [
-            ("PI/8", "pi/8, found 'PI/8'"),
-            ("-3Pi/4", "-3pi/4, found '-3Pi/4'"),
-            ("π/8", "pi/8, found 'π/8'"),
-            ("pi/8,", "pi/8, found 'pi/8,'"),
-            ("-pi*3/4", "-3pi/4, found '-pi*3/4'"),
-            ("np.pi*2", "2pi, found 'np.pi*2'"),
-            ("3*M_PI/4", "3*pi/4, found '3*M_PI/4'"),
-            ("−2·π", "-2*pi, found '−2·π'"),
-            (
-                "1,5",
-                "1.5, found '1,5': a point stands in front of a fraction",
-            ),
-            ("45°", "45pi/180, found '45°': an angle is in radians"),
-            (
-                "-4,5deg",
-                "-4.5pi/180, found '-4,5deg': an angle is in radians",
-            ),
-            (
-                "90Degrees",
-                "90pi/180, found '90Degrees': an angle is in radians",
-            ),
-            ("0.5rad", "0.5, found '0.5rad': an angle is in radians"),
-            ("pi / 8", "pi/8, found 'pi / 8': an angle has no spaces"),
-            ("3 PI/4", "3pi/4, found '3 PI/4': an angle has no spaces"),
-            (
-                "- 3 * pi / 4 if",
-                "-3*pi/4, found '- 3 * pi / 4': an angle has no spaces",
-            ),
-            ("- 0.5", "-0.5, found '- 0.5': an angle has no spaces"),
-            ("45 deg", "45pi/180, found '45 deg': an angle is in radians"),
+            ("PI/8", "pi/8"),
+            ("-3Pi/4", "-3pi/4"),
+            ("π/8", "pi/8"),
+            ("pi/8,", "pi/8"),
+            ("-pi*3/4", "-3pi/4"),
+            ("np.pi*2", "2pi"),
+            ("3*M_PI/4", "3*pi/4"),
+            ("−2·π", "-2*pi"),
         ] {
-            assert_eq!(
-                told(&format!("_ {text}")),
-                format!("1:3: expected {wanted}")
-            );
+            tells(text, &format!("{wanted}, found '{text}'"));
         }
-        assert!(read("45pi/180").is_ok() && read("-2*pi").is_ok());
+        assert!(read("-2*pi").is_ok());
+    }
+
+    #[test]
+    fn what_is_wrong_with_an_angle_is_told() {
+        for (text, wanted, why) in [
+            ("1,5", "1.5", "a point stands in front of a fraction"),
+            ("45°", "45pi/180", "an angle is in radians"),
+            ("-4,5deg", "-4.5pi/180", "an angle is in radians"),
+            ("90Degrees", "90pi/180", "an angle is in radians"),
+            ("0.5rad", "0.5", "an angle is in radians"),
+            ("45 deg", "45pi/180", "an angle is in radians"),
+            ("pi / 8", "pi/8", "an angle has no spaces"),
+            ("3 PI/4", "3pi/4", "an angle has no spaces"),
+            ("- 0.5", "-0.5", "an angle has no spaces"),
+            ("- 3 * pi / 4", "-3*pi/4", "an angle has no spaces"),
+        ] {
+            tells(text, &format!("{wanted}, found '{text}': {why}"));
+        }
+        tells("pi /8 if s1", "pi/8, found 'pi /8': an angle has no spaces");
+        assert_eq!(read("45pi/180"), Ok(45.0 * PI / 180.0));
+    }
+
+    #[test]
+    fn what_is_no_angle_is_not_guessed() {
         for text in [
             "deg", "x°", "1e400deg", "1,5,2", "1/2", "rad", "2pi*3", "pi*", "pi/-2,", "°",
         ] {
-            assert_eq!(
-                told(&format!("_ {text}")),
-                format!("1:3: expected {ANGLE}, found '{text}'")
-            );
+            tells(text, &format!("{ANGLE}, found '{text}'"));
         }
     }
 

@@ -426,7 +426,7 @@ mod tests {
     }
 
     #[test]
-    fn numbers_are_told_with_their_limits() {
+    fn numbers_of_the_head_are_told_with_their_limits() {
         let head = |text: &str| bad(&format!("{text}\ninitial 2\nmax 8"))[0].clone();
         for (text, limits) in [
             (
@@ -444,6 +444,10 @@ mod tests {
                 format!("1:{column}: expected {limits}, found '{found}'")
             );
         }
+    }
+
+    #[test]
+    fn numbers_of_a_record_are_told_with_their_limits() {
         let record = |text: &str| bad(&format!("initial 2\nmax 8\n{text}"))[0].clone();
         for (text, wanted) in [
             (

@@ -607,13 +607,17 @@ mod tests {
             assert_eq!(told[0], wanted);
             assert!(told[1].starts_with(found), "{told:?}");
         }
-        for text in ["65\nrotate X63 1", "65\nrotate XX 1", "0\nmeasure Z5"] {
-            assert_eq!(good(&format!("width {text}")).operations.len(), 1);
-        }
         assert_eq!(
             bad("width -1\nrotate X70 1")[0],
             "1:7: expected a width from 1 to 64, found '-1'"
         );
+    }
+
+    #[test]
+    fn a_width_that_no_list_may_have_holds_no_line_to_it() {
+        for text in ["65\nrotate X63 1", "65\nrotate XX 1", "0\nmeasure Z5"] {
+            assert_eq!(good(&format!("width {text}")).operations.len(), 1);
+        }
     }
 
     #[test]

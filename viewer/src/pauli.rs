@@ -333,9 +333,17 @@ mod tests {
             let wanted = format!("1:1: expected {wanted}, found '{text}': {CAPITALS}");
             assert_eq!(told, wanted);
         }
+    }
+
+    #[test]
+    fn an_imaginary_sign_is_no_small_letter() {
         for (text, width) in [("iXZ", 2), ("-iX0", 1), ("i", 0), ("iIZ", 2)] {
             assert!(read(text, width).is_ok(), "{text}");
         }
+    }
+
+    #[test]
+    fn what_is_no_pauli_has_no_capitals() {
         for text in ["xq", "if", "x0x1", "i", "x0*", "é", ""] {
             assert_eq!(in_capitals(text, None), None, "{text}");
         }
