@@ -105,6 +105,12 @@ fn has_line(text: &str, words: &[&str]) -> bool {
     text.lines().any(first)
 }
 
+/// The text that bytes are, without a mark in front; none where they are something else.
+fn text_of(bytes: &[u8]) -> Option<&str> {
+    let text = std::str::from_utf8(bytes).ok()?;
+    (!text.contains('\0')).then(|| text.trim_start_matches('\u{feff}'))
+}
+
 /// What text is.
 fn of_text(text: &str) -> Kind {
     match text {
@@ -144,10 +150,7 @@ pub fn of(bytes: &[u8]) -> Kind {
         [] => Kind::Empty,
         _ if is_stored_plan(bytes) => Kind::StoredPlan,
         _ if is_wide_text(bytes) => Kind::Utf16,
-        _ => match std::str::from_utf8(bytes) {
-            Ok(text) if !text.contains('\0') => of_text(text.trim_start_matches('\u{feff}')),
-            _ => Kind::Binary,
-        },
+        _ => text_of(bytes).map_or(Kind::Binary, of_text),
     }
 }
 
@@ -183,7 +186,7 @@ impl Kind {
 /// nothing of one that may be it, or that is text with an odd byte.
 pub fn other(bytes: &[u8], wanted: Kind) -> Option<String> {
     let found = of(bytes);
-    let has_width = || std::str::from_utf8(bytes).is_ok_and(|text| has_line(text, &["width"]));
+    let has_width = || text_of(bytes).is_some_and(|text| has_line(text, &["width"]));
     let is_other = match found {
         Kind::Circuit | Kind::List if found == wanted => false,
         Kind::Circuit => !has_width(),
@@ -258,7 +261,7 @@ mod tests {
                 Some("a list of pending operations; --optimize shows it"),
                 None,
             ),
-            (b"width 8\ninitial 3", None, None),
+            (b"\xef\xbb\xbfwidth 8\ninitial 3", None, None),
             (
                 &plan,
                 Some("a stored plan; --stored shows it"),
