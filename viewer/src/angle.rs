@@ -124,32 +124,29 @@ fn mended(text: &str, is_right: fn(&str) -> bool) -> Option<(String, &'static st
     all.find(|(text, _)| is_right(text))
 }
 
-/// That an angle is written in several words, if it is.
-fn spaced(fields: &Fields<'_>) -> Option<Fault> {
-    let words = fields.ahead(MOST_PARTS);
-    let ends = |text: &str| text.ends_with(|end: char| end.is_ascii_digit() || end == '.');
-    let begins = |text: &str| text.starts_with(|next: char| next.is_ascii_digit() || next == '.');
-    let told = |count: usize| {
-        let parts: Vec<_> = words[..count].iter().map(|word| word.text).collect();
-        let joined = parts.concat();
-        let (text, why) = match is_angle(&joined) {
-            true => (joined, ""),
-            false => mended(&joined, is_angle)?,
-        };
-        let why = if why.is_empty() {
-            "an angle has no spaces"
-        } else {
-            why
-        };
-        let mut pairs = parts.windows(2);
-        let are_numbers = pairs.any(|pair| ends(pair[0]) && begins(pair[1]));
-        let word = Word {
-            text: &parts.join(" "),
-            ..words[0]
-        };
-        (!are_numbers).then(|| word.mended(&text, why))
+/// Whether two words would be one number with nothing between.
+fn are_digits(pair: &[Word<'_>]) -> bool {
+    let is_digit = |sign: char| sign.is_ascii_digit() || sign == '.';
+    let [first, second] = pair else {
+        return false;
     };
-    (2..=words.len()).rev().find_map(told)
+    first.text.ends_with(is_digit) && second.text.starts_with(is_digit)
+}
+
+/// That words are an angle in several words, if they are.
+fn spaced(words: &[Word<'_>]) -> Option<Fault> {
+    let parts: Vec<_> = words.iter().map(|word| word.text).collect();
+    let joined = parts.concat();
+    let (text, why) = match is_angle(&joined) {
+        true => (joined, ""),
+        false => mended(&joined, is_angle)?,
+    };
+    let why = match why {
+        "" => "an angle has no spaces",
+        why => why,
+    };
+    let fault = Word::mended_run(words, &text, why)?;
+    (!words.windows(2).any(are_digits)).then_some(fault)
 }
 
 /// What is wrong with a word that is no angle, where this is expected in place of one that is not
@@ -187,7 +184,9 @@ fn parse(word: Word<'_>, finite: &str) -> Result<f64, Fault> {
 /// The next word as an angle in radians, where this is expected in place of one that is not
 /// finite.
 pub fn next(fields: &mut Fields<'_>, finite: &str) -> Result<f64, Fault> {
-    match spaced(fields) {
+    let words = fields.ahead(MOST_PARTS);
+    let mut runs = (2..=words.len()).rev().map(|count| &words[..count]);
+    match runs.find_map(spaced) {
         Some(fault) => Err(fault),
         None => parse(fields.next("an angle such as 0.25 or pi/8")?, finite),
     }
@@ -347,8 +346,8 @@ mod tests {
             "1 if",
             "pi/8 now",
         ] {
-            let line = Line::new(1, &format!("_ {text}")).text();
-            let line = Line::new(1, &line);
+            let said = format!("_ {text}");
+            let line = Line::new(1, &said);
             let mut fields = Fields::new(&line, &[]).unwrap();
             assert!(next(&mut fields, FINITE).is_ok(), "{text}");
         }

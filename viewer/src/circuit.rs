@@ -221,11 +221,7 @@ pub fn pauli_of(fields: &mut Fields<'_>, width: Option<u64>, told: Told) -> Resu
             phase: phase.unwrap_or(0),
         });
     }
-    pauli::parse(
-        fields.next("a Pauli such as X_X or X0*X2, or masks such as x=5 z=0 phase=1")?,
-        width,
-        told,
-    )
+    pauli::next(fields, width, told)
 }
 
 /// A rotation about a Pauli.

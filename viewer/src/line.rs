@@ -179,6 +179,16 @@ impl<'a> Word<'a> {
         self.fault_found(repeated(text), found)
     }
 
+    /// A fault at the first of several words that tells how to write them as one, and why.
+    pub fn mended_run(words: &[Word<'_>], text: &str, why: &str) -> Option<Fault> {
+        let parts: Vec<_> = words.iter().map(|word| word.text).collect();
+        let run = Word {
+            text: &parts.join(" "),
+            ..*words.first()?
+        };
+        Some(run.mended(text, why))
+    }
+
     /// A fault that tells the word to write in small letters.
     pub fn in_small_letters(&self, text: &str) -> Fault {
         self.mended(text, SMALL_LETTERS)

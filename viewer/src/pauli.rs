@@ -4,12 +4,14 @@
 
 use std::collections::HashSet;
 
+use crate::fields::Fields;
 use crate::line::{Fault, Word};
 
 /// The masks of a record have as many bits.
 const MASK_BITS: u64 = u64::BITS as u64;
 
 const LETTERS: &str = "X, Y, Z, I or _";
+const PAULI: &str = "a Pauli such as X_X or X0*X2, or masks such as x=5 z=0 phase=1";
 const CAPITALS: &str = "letters of a Pauli are capitals";
 
 /// A Pauli as a record has it.
@@ -140,6 +142,12 @@ fn is_factor(text: &str) -> bool {
     !digits.is_empty() && digits.chars().all(|digit| digit.is_ascii_digit())
 }
 
+/// Whether text behind a sign is a Pauli: letters, or a product of factors.
+fn is_body(text: &str) -> bool {
+    let is_string = text.chars().all(|letter| "XYZI_".contains(letter));
+    is_string || text.split('*').all(is_factor)
+}
+
 /// A Pauli in which letters are small, with capitals; none for one that is right, and for a word
 /// that is none. An i in front may be a letter or the imaginary sign.
 fn in_capitals(text: &str, width: Option<u64>) -> Option<String> {
@@ -149,10 +157,28 @@ fn in_capitals(text: &str, width: Option<u64>) -> Option<String> {
         behind.starts_with(|next: char| next.is_ascii_digit()) || width == Some(rest.len() as u64);
     let letters = if is_letter { rest } else { behind };
     let capitals = letters.to_ascii_uppercase();
-    let is_string = capitals.chars().all(|letter| "XYZI_".contains(letter));
-    let is_pauli = is_string || capitals.split('*').all(is_factor);
     let front = &text[..text.len() - letters.len()];
-    (is_pauli && capitals != letters).then(|| format!("{front}{capitals}"))
+    (is_body(&capitals) && capitals != letters).then(|| format!("{front}{capitals}"))
+}
+
+/// That the next words are a Pauli in several words, if they are: * stands at an end of one, or a
+/// sign alone in front.
+fn spaced(fields: &Fields<'_>) -> Option<Fault> {
+    let words = fields.ahead(usize::MAX);
+    let is_sign = |text: &str| !text.is_empty() && sign(text).1 == text.len();
+    let goes_on = |pair: &&[Word<'_>]| {
+        let (first, second) = (pair[0].text, pair[1].text);
+        let is_pauli = begins(second) || in_capitals(second, None).is_some();
+        let is_signed = is_sign(first) && is_pauli;
+        is_signed || first.ends_with('*') || second.starts_with('*')
+    };
+    let more = words.windows(2).take_while(goes_on).count();
+    let words = words.get(..=more).filter(|words| words.len() > 1)?;
+    let parts: Vec<_> = words.iter().map(|word| word.text).collect();
+    let joined = parts.concat();
+    let text = in_capitals(&joined, None).unwrap_or(joined);
+    let fault = Word::mended_run(words, &text, "a Pauli has no spaces")?;
+    is_body(&text[sign(&text).1..]).then_some(fault)
 }
 
 /// The bit of a position; a letter that acts needs one.
@@ -235,9 +261,17 @@ fn read_product(
     Ok(())
 }
 
+/// The Pauli of the next word, as for a word alone.
+pub fn next(fields: &mut Fields<'_>, width: Option<u64>, told: Told) -> Result<Pauli, Fault> {
+    match spaced(fields) {
+        Some(fault) => Err(fault),
+        None => parse(fields.next(PAULI)?, width, told),
+    }
+}
+
 /// The Pauli of a word over so many positions, of which a fault tells in these words. Where their
 /// number is not known, since an earlier line is bad, the length is held to nothing.
-pub fn parse(word: Word<'_>, width: Option<u64>, told: Told) -> Result<Pauli, Fault> {
+fn parse(word: Word<'_>, width: Option<u64>, told: Told) -> Result<Pauli, Fault> {
     if let Some(text) = in_capitals(word.text, width) {
         return Err(word.mended(&text, CAPITALS));
     }
@@ -259,6 +293,7 @@ pub fn parse(word: Word<'_>, width: Option<u64>, told: Told) -> Result<Pauli, Fa
 #[cfg(test)]
 mod tests {
     use super::*;
+    use crate::line::Line;
 
     /// A Pauli that is read from the first column.
     fn read(text: &str, width: u64) -> Result<Pauli, Fault> {
@@ -346,6 +381,35 @@ mod tests {
     fn what_is_no_pauli_has_no_capitals() {
         for text in ["xq", "if", "x0x1", "i", "x0*", "é", ""] {
             assert_eq!(in_capitals(text, None), None, "{text}");
+        }
+    }
+
+    /// What is said of a Pauli in several words, if it is one.
+    fn said(text: &str) -> Option<String> {
+        let text = format!("_ {text}");
+        let line = Line::new(1, &text);
+        let fault = spaced(&Fields::new(&line, &[]).unwrap())?;
+        Some(fault.to_string())
+    }
+
+    #[test]
+    fn a_pauli_has_no_spaces() {
+        for (text, wanted) in [
+            ("X0 * X2", "X0*X2"),
+            ("X0* Y1 *Z2", "X0*Y1*Z2"),
+            ("- x0 *z1", "-X0*Z1"),
+            ("- X_X", "-X_X"),
+            ("-i Z2", "-iZ2"),
+        ] {
+            let told = format!("1:3: expected {wanted}, found '{text}': a Pauli has no spaces");
+            assert_eq!(said(&format!("{text} 0.5")), Some(told));
+        }
+    }
+
+    #[test]
+    fn words_of_their_own_are_no_pauli_with_spaces() {
+        for text in ["X0*X2 *", "X0 X2", "X_X *pi", "X0 5", "- 5", "+", ""] {
+            assert_eq!(said(text), None, "{text}");
         }
     }
 
