@@ -84,6 +84,15 @@ impl<'a> Fields<'a> {
         self.others.iter().take(most).copied().collect()
     }
 
+    /// The next word without a name, and those behind it as long as one goes on with the next;
+    /// none where it does not.
+    pub fn run(&self, goes_on: fn(&str, &str) -> bool) -> Option<Vec<Word<'a>>> {
+        let next = self.others.iter().zip(self.others.iter().skip(1));
+        let more = next.take_while(|(word, next)| goes_on(word.text, next.text));
+        let more = more.count();
+        (more > 0).then(|| self.ahead(more + 1))
+    }
+
     /// Nothing more may stand on the line.
     pub fn finish(&mut self) -> Result<(), Fault> {
         match self.others.pop_front() {

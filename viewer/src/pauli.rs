@@ -161,23 +161,21 @@ fn in_capitals(text: &str, width: Option<u64>) -> Option<String> {
     (is_body(&capitals) && capitals != letters).then(|| format!("{front}{capitals}"))
 }
 
-/// That the next words are a Pauli in several words, if they are: * stands at an end of one, or a
-/// sign alone in front.
+/// Whether a Pauli that begins with a word goes on with the next: * stands at an end of one, or
+/// the first is a sign alone.
+fn goes_on(word: &str, next: &str) -> bool {
+    let is_sign = !word.is_empty() && sign(word).1 == word.len();
+    let is_pauli = begins(next) || in_capitals(next, None).is_some();
+    is_sign && is_pauli || word.ends_with('*') || next.starts_with('*')
+}
+
+/// That the next words are a Pauli in several words, if they are.
 fn spaced(fields: &Fields<'_>) -> Option<Fault> {
-    let words = fields.ahead(usize::MAX);
-    let is_sign = |text: &str| !text.is_empty() && sign(text).1 == text.len();
-    let goes_on = |pair: &&[Word<'_>]| {
-        let (first, second) = (pair[0].text, pair[1].text);
-        let is_pauli = begins(second) || in_capitals(second, None).is_some();
-        let is_signed = is_sign(first) && is_pauli;
-        is_signed || first.ends_with('*') || second.starts_with('*')
-    };
-    let more = words.windows(2).take_while(goes_on).count();
-    let words = words.get(..=more).filter(|words| words.len() > 1)?;
+    let words = fields.run(goes_on)?;
     let parts: Vec<_> = words.iter().map(|word| word.text).collect();
     let joined = parts.concat();
     let text = in_capitals(&joined, None).unwrap_or(joined);
-    let fault = Word::mended_run(words, &text, "a Pauli has no spaces")?;
+    let fault = Word::mended_run(&words, &text, "a Pauli has no spaces")?;
     is_body(&text[sign(&text).1..]).then_some(fault)
 }
 

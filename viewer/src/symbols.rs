@@ -63,17 +63,38 @@ fn add(sign: &mut SymbolicBool, term: Word<'_>) -> Result<(), Fault> {
     Ok(())
 }
 
+/// Whether the next word is 'not', which then is behind.
+fn negation(fields: &mut Fields<'_>) -> Result<bool, Fault> {
+    let Some(word) = fields.peek() else {
+        return Ok(false);
+    };
+    match word.meant(&["not"]) {
+        Some(known) => Err(word.in_small_letters(known)),
+        None if word.text == "not" => fields.next(SIGN).map(|_| true),
+        None => Ok(false),
+    }
+}
+
+/// That the next words are an exclusive or in several words, if they are.
+fn spaced(fields: &Fields<'_>) -> Option<Fault> {
+    let words = fields.run(|word, next| word.ends_with('^') || next.starts_with('^'))?;
+    let parts: Vec<_> = words.iter().map(|word| word.text).collect();
+    let joined = parts.concat().to_ascii_lowercase();
+    let is_symbol = |text: &str| text.starts_with('s') && text.len() > 1;
+    let is_sign = joined
+        .split('^')
+        .all(|text| is_symbol(text) || matches!(text, "0" | "1"));
+    let fault = Word::mended_run(&words, &joined, "an exclusive or has no spaces")?;
+    is_sign.then_some(fault)
+}
+
 /// The next word, or two with 'not' in front, as a sign. Its symbols may come in any order.
 pub fn parse(fields: &mut Fields<'_>) -> Result<SymbolicBool, Fault> {
-    let first = fields.next(SIGN)?;
-    if let Some(known) = first.meant(&["not"]) {
-        return Err(first.in_small_letters(known));
+    let is_negated = negation(fields)?;
+    if let Some(fault) = spaced(fields) {
+        return Err(fault);
     }
-    let is_negated = first.text == "not";
-    let word = match is_negated {
-        true => fields.next(SIGN)?,
-        false => first,
-    };
+    let word = fields.next(SIGN)?;
     let mut sign = SymbolicBool::from(is_negated);
     let (mut byte, mut column) = (0, 0);
     for text in word.text.split('^') {
@@ -126,6 +147,32 @@ mod tests {
         }
         let other = read("if not s9^1^s2").unwrap();
         assert_eq!(text(&other), "s2^s9");
+    }
+
+    #[test]
+    fn an_exclusive_or_has_no_spaces() {
+        for (text, column, wanted) in [
+            ("s1 ^ s2", 4, "s1^s2"),
+            ("s1 ^S2^ 1", 4, "s1^s2^1"),
+            ("not s1 ^ s2", 8, "s1^s2"),
+        ] {
+            let found = text.trim_start_matches("not ");
+            let why = "an exclusive or has no spaces";
+            assert_eq!(
+                read(&format!("if {text} now")).unwrap_err().to_string(),
+                format!("1:{column}: expected {wanted}, found '{found}': {why}")
+            );
+        }
+    }
+
+    #[test]
+    fn words_of_their_own_are_no_exclusive_or() {
+        assert_eq!(read("if s1 s2").unwrap(), read("if s1").unwrap());
+        for text in ["s1 ^", "s1 ^ t2", "s ^ s1", "^ s1"] {
+            let line = format!("if {text}");
+            let line = Line::new(1, &line);
+            assert_eq!(spaced(&Fields::new(&line, &[]).unwrap()), None, "{text}");
+        }
     }
 
     #[test]
