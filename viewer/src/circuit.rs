@@ -198,6 +198,7 @@ impl Reader {
     }
 }
 
+const PAULI: &str = "a Pauli such as X_X or X0*X2, or masks such as x=5 z=0 phase=1";
 /// A mask of a Pauli that is given as numbers.
 const MASK: &str = "a mask below 2^64 such as 5, 0x5 or 0b101";
 /// The phase of such a Pauli.
@@ -221,7 +222,15 @@ pub fn pauli_of(fields: &mut Fields<'_>, width: Option<u64>, told: Told) -> Resu
             phase: phase.unwrap_or(0),
         });
     }
-    pauli::next(fields, width, told)
+    if let Some(fault) = fields
+        .run(pauli::goes_on)
+        .and_then(|run| pauli::spaced(&run))
+    {
+        return Err(fault);
+    }
+    let word = fields.next(PAULI)?;
+    let read = pauli::parse(word, width, told);
+    read.map_err(|fault| pauli::small(word, width).unwrap_or(fault))
 }
 
 /// A rotation about a Pauli.

@@ -4,14 +4,12 @@
 
 use std::collections::HashSet;
 
-use crate::fields::Fields;
 use crate::line::{Fault, Word};
 
 /// The masks of a record have as many bits.
 const MASK_BITS: u64 = u64::BITS as u64;
 
 const LETTERS: &str = "X, Y, Z, I or _";
-const PAULI: &str = "a Pauli such as X_X or X0*X2, or masks such as x=5 z=0 phase=1";
 const CAPITALS: &str = "letters of a Pauli are capitals";
 
 /// A Pauli as a record has it.
@@ -161,21 +159,26 @@ fn in_capitals(text: &str, width: Option<u64>) -> Option<String> {
     (is_body(&capitals) && capitals != letters).then(|| format!("{front}{capitals}"))
 }
 
+/// That a word is a Pauli but for small letters, if it is.
+pub fn small(word: Word<'_>, width: Option<u64>) -> Option<Fault> {
+    let text = in_capitals(word.text, width)?;
+    Some(word.mended(&text, CAPITALS))
+}
+
 /// Whether a Pauli that begins with a word goes on with the next: * stands at an end of one, or
 /// the first is a sign alone.
-fn goes_on(word: &str, next: &str) -> bool {
+pub fn goes_on(word: &str, next: &str) -> bool {
     let is_sign = !word.is_empty() && sign(word).1 == word.len();
     let is_pauli = begins(next) || in_capitals(next, None).is_some();
     is_sign && is_pauli || word.ends_with('*') || next.starts_with('*')
 }
 
-/// That the next words are a Pauli in several words, if they are.
-fn spaced(fields: &Fields<'_>) -> Option<Fault> {
-    let words = fields.run(goes_on)?;
+/// That words are a Pauli in several words, if they are.
+pub fn spaced(words: &[Word<'_>]) -> Option<Fault> {
     let parts: Vec<_> = words.iter().map(|word| word.text).collect();
     let joined = parts.concat();
     let text = in_capitals(&joined, None).unwrap_or(joined);
-    let fault = Word::mended_run(&words, &text, "a Pauli has no spaces")?;
+    let fault = Word::mended_run(words, &text, "a Pauli has no spaces")?;
     is_body(&text[sign(&text).1..]).then_some(fault)
 }
 
@@ -236,9 +239,6 @@ fn read_product(
     told: Told,
     pauli: &mut Pauli,
 ) -> Result<(), Fault> {
-    if width == Some(0) {
-        return Err(body.fault(format!("the Pauli to end here ({})", told(0))));
-    }
     let expected = position(width, told);
     let mut seen = HashSet::new();
     let (mut byte, mut column) = (0, 0);
@@ -248,8 +248,10 @@ fn read_product(
         column += text.chars().count() + 1;
         let (letter, position) = read_factor(factor, &expected)?;
         let place = factor.from(1);
-        if width.is_some_and(|width| position >= width) {
-            return Err(place.fault(expected));
+        match width {
+            Some(0) => return Err(place.fault(format!("no factor ({})", told(0)))),
+            Some(width) if position >= width => return Err(place.fault(expected)),
+            _ => {}
         }
         if !seen.insert(position) {
             return Err(place.fault_found("each position once", format!("{position} again")));
@@ -259,20 +261,9 @@ fn read_product(
     Ok(())
 }
 
-/// The Pauli of the next word, as for a word alone.
-pub fn next(fields: &mut Fields<'_>, width: Option<u64>, told: Told) -> Result<Pauli, Fault> {
-    match spaced(fields) {
-        Some(fault) => Err(fault),
-        None => parse(fields.next(PAULI)?, width, told),
-    }
-}
-
 /// The Pauli of a word over so many positions, of which a fault tells in these words. Where their
 /// number is not known, since an earlier line is bad, the length is held to nothing.
-fn parse(word: Word<'_>, width: Option<u64>, told: Told) -> Result<Pauli, Fault> {
-    if let Some(text) = in_capitals(word.text, width) {
-        return Err(word.mended(&text, CAPITALS));
-    }
+pub fn parse(word: Word<'_>, width: Option<u64>, told: Told) -> Result<Pauli, Fault> {
     let (phase, bytes) = sign(word.text);
     let mut pauli = Pauli {
         phase,
@@ -362,9 +353,10 @@ mod tests {
             ("-iy0*Z1", 2, "-iY0*Z1"),
             ("x7", 2, "X7"),
         ] {
-            let told = read(text, width).unwrap_err().to_string();
+            assert!(read(text, width).is_err(), "{text}");
+            let told = small(Line::new(1, text).words[0], Some(width)).unwrap();
             let wanted = format!("1:1: expected {wanted}, found '{text}': {CAPITALS}");
-            assert_eq!(told, wanted);
+            assert_eq!(told.to_string(), wanted);
         }
     }
 
@@ -372,6 +364,7 @@ mod tests {
     fn an_imaginary_sign_is_no_small_letter() {
         for (text, width) in [("iXZ", 2), ("-iX0", 1), ("i", 0), ("iIZ", 2)] {
             assert!(read(text, width).is_ok(), "{text}");
+            assert_eq!(in_capitals(text, Some(width)), None, "{text}");
         }
     }
 
@@ -382,11 +375,13 @@ mod tests {
         }
     }
 
-    /// What is said of a Pauli in several words, if it is one.
+    /// What is said of words as one Pauli, if they go on with each other and are one.
     fn said(text: &str) -> Option<String> {
-        let text = format!("_ {text}");
-        let line = Line::new(1, &text);
-        let fault = spaced(&Fields::new(&line, &[]).unwrap())?;
+        let words = Line::new(1, text).words;
+        let are_one = words
+            .windows(2)
+            .all(|pair| goes_on(pair[0].text, pair[1].text));
+        let fault = spaced(&words).filter(|_| are_one)?;
         Some(fault.to_string())
     }
 
@@ -399,14 +394,14 @@ mod tests {
             ("- X_X", "-X_X"),
             ("-i Z2", "-iZ2"),
         ] {
-            let told = format!("1:3: expected {wanted}, found '{text}': a Pauli has no spaces");
-            assert_eq!(said(&format!("{text} 0.5")), Some(told));
+            let told = format!("1:1: expected {wanted}, found '{text}': a Pauli has no spaces");
+            assert_eq!(said(text), Some(told));
         }
     }
 
     #[test]
     fn words_of_their_own_are_no_pauli_with_spaces() {
-        for text in ["X0*X2 *", "X0 X2", "X_X *pi", "X0 5", "- 5", "+", ""] {
+        for text in ["X0*X2 *", "X0 X2", "X_X *pi", "X0 5", "- 5", "- X0 0.5"] {
             assert_eq!(said(text), None, "{text}");
         }
     }
@@ -420,7 +415,7 @@ mod tests {
         );
         assert_eq!(
             told("X0", 0),
-            "1:1: expected the Pauli to end here (no coordinate is active), found 'X0'"
+            "1:2: expected no factor (no coordinate is active), found '0'"
         );
         assert_eq!(
             position(Some(0), active),
