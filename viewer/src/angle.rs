@@ -90,10 +90,10 @@ fn is_endless(text: &str) -> bool {
 fn in_radians(text: &str) -> Option<String> {
     let number = |units: &[&str]| {
         let mut numbers = units.iter().filter_map(|unit| text.strip_suffix(unit));
-        numbers.find(|number| is_number(number))
+        numbers.find_map(|number| plain(number).filter(|number| number.is_finite()))
     };
-    let of_degrees = number(&DEGREES).map(|number| format!("{number}pi/180"));
-    of_degrees.or_else(|| number(&RADIANS).map(str::to_owned))
+    let degrees = number(&DEGREES).map(of_degrees);
+    degrees.or_else(|| number(&RADIANS).map(written))
 }
 
 /// A part of pi with its factor in front, where that stands behind.
@@ -310,11 +310,11 @@ mod tests {
     fn what_is_wrong_with_an_angle_is_told() {
         for (text, wanted, why) in [
             ("1,5", "1.5", "a point stands in front of a fraction"),
-            ("45°", "45pi/180", "an angle is in radians"),
-            ("-4,5deg", "-4.5pi/180", "an angle is in radians"),
-            ("90Degrees", "90pi/180", "an angle is in radians"),
+            ("45°", "pi/4", "an angle is in radians"),
+            ("-22,5deg", "-pi/8", "an angle is in radians"),
+            ("90Degrees", "pi/2", "an angle is in radians"),
             ("0.5rad", "0.5", "an angle is in radians"),
-            ("45 deg", "45pi/180", "an angle is in radians"),
+            ("45 deg", "pi/4", "an angle is in radians"),
             ("pi / 8", "pi/8", "an angle has no spaces"),
             ("3 PI/4", "3pi/4", "an angle has no spaces"),
             ("- 0.5", "-0.5", "an angle has no spaces"),
@@ -323,7 +323,6 @@ mod tests {
             tells(text, &format!("{wanted}, found '{text}': {why}"));
         }
         tells("pi /8 if s1", "pi/8, found 'pi /8': an angle has no spaces");
-        assert_eq!(read("45pi/180"), Ok(45.0 * PI / 180.0));
     }
 
     #[test]
