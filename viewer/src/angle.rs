@@ -1,5 +1,5 @@
 //! Reads an angle in radians: a number, or a part of pi such as 3pi/8; and a plain number
-//! for a sine or cosine.
+//! for a sine or cosine. What is nearly one is not read, but told as it has to be written.
 
 use std::f64::consts::PI;
 
@@ -105,23 +105,25 @@ fn factor_first(text: &str) -> Option<String> {
     is_part.then(|| format!("{sign}{factor}pi{divisor}"))
 }
 
-/// How something is written that is nearly right, and why, by what tells what is right.
-fn mended(text: &str, is_right: fn(&str) -> bool) -> Option<(String, &'static str)> {
+/// What may be meant by text, in the usual signs, and with a point for a comma, and why.
+fn respelled(text: &str) -> [(String, &'static str); 2] {
     let small = text.to_ascii_lowercase();
     let replaced = |text: String, (found, meant): &(&str, &str)| text.replace(found, meant);
     let usual = SIGNS.iter().fold(small, replaced);
     let usual = usual.trim_end_matches([',', ';']).to_owned();
     let pointed = usual.replace(',', ".");
-    let radians = in_radians(&pointed).unwrap_or_default();
-    let first = factor_first(&usual).unwrap_or_default();
-    let mut all = [
-        (usual, ""),
-        (first, ""),
-        (pointed, "a point stands in front of a fraction"),
-        (radians, "an angle is in radians"),
-    ]
-    .into_iter();
-    all.find(|(text, _)| is_right(text))
+    let why = "a point stands in front of a fraction";
+    [(usual, ""), (pointed, why)]
+}
+
+/// How an angle is written that is nearly one, and why.
+fn mended(text: &str) -> Option<(String, &'static str)> {
+    let [usual, pointed] = respelled(text);
+    let first = factor_first(&usual.0).unwrap_or_default();
+    let radians = in_radians(&pointed.0).unwrap_or_default();
+    let radians = (radians, "an angle is in radians");
+    let mut all = [usual, (first, ""), pointed, radians].into_iter();
+    all.find(|(text, _)| is_angle(text))
 }
 
 /// Whether two words would be one number with nothing between.
@@ -139,7 +141,7 @@ fn spaced(words: &[Word<'_>]) -> Option<Fault> {
     let joined = parts.concat();
     let (text, why) = match is_angle(&joined) {
         true => (joined, ""),
-        false => mended(&joined, is_angle)?,
+        false => mended(&joined)?,
     };
     let why = match why {
         "" => "an angle has no spaces",
@@ -159,7 +161,7 @@ fn fault(word: Word<'_>, finite: &str) -> Fault {
         (Some(_), Some(behind)) => behind.fault("a divisor that is not 0"),
         (Some(_), None) => word.fault(finite),
         _ if is_endless(word.text) => word.fault(finite),
-        _ => match mended(word.text, is_angle) {
+        _ => match mended(word.text) {
             Some((text, why)) => word.mended(&text, why),
             None => word.fault(ANGLE),
         },
@@ -169,7 +171,11 @@ fn fault(word: Word<'_>, finite: &str) -> Fault {
 /// A number.
 pub fn number(word: Word<'_>, expected: &str) -> Result<f64, Fault> {
     let number = plain(word.text).filter(|number| number.is_finite());
-    number.ok_or_else(|| match mended(word.text, is_number) {
+    let meant = || {
+        let mut all = respelled(word.text).into_iter();
+        all.find(|(text, _)| is_number(text))
+    };
+    number.ok_or_else(|| match meant() {
         Some((text, why)) => word.mended(&text, why),
         None => word.fault(expected),
     })
@@ -380,7 +386,7 @@ mod tests {
         assert_eq!(read("-1e-3"), Ok(-0.001));
         assert_eq!(read("0,5").unwrap_err().expected, "0.5");
         assert_eq!(read("−1").unwrap_err().expected, "-1");
-        for text in ["1e400", "nan", "pi/8", "45°", "half"] {
+        for text in ["1e400", "nan", "pi/8", "7°", "0.5rad", "half"] {
             assert_eq!(read(text).unwrap_err().expected, "a number", "{text}");
         }
     }
