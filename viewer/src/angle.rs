@@ -392,6 +392,29 @@ mod tests {
     }
 
     #[test]
+    fn degrees_are_told_in_radians() {
+        for (degrees, wanted) in [
+            (45.0, "pi/4"),
+            (-90.0, "-pi/2"),
+            (360.0, "2pi"),
+            (36.0, "pi/5"),
+            (11.25, "pi/16"),
+            (67.5, "3pi/8"),
+            (105.0, "7pi/12"),
+            (337.5, "15pi/8"),
+            (7.0, "0.12217304763960307"),
+            (1e308, "1.7453292519943295e306"),
+        ] {
+            assert_eq!(of_degrees(degrees), wanted);
+        }
+        // One float away from a part of pi is none.
+        for part in [45.0_f64, 60.0, 36.0, 15.0] {
+            let near = f64::from_bits(part.to_bits() + 1);
+            assert!(!of_degrees(near).contains("pi"), "{near}");
+        }
+    }
+
+    #[test]
     fn angles_are_written_as_they_are_read() {
         for written in [
             "pi", "-pi/2", "3pi/8", "-5pi/32", "0", "-0", "0.1", "-1048576", "5e-324", "1e-7",

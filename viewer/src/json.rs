@@ -417,7 +417,7 @@ mod tests_of_json {
             ("\nmax 62\ninitial 1", 1, "2"),
             ("ceiling 9\n\nmax 8\ninitial 513", 4, "4"),
             ("max 8\n\nceiling 0\ninitial 1", 24, "3"),
-            ("max 8\ninitial 1\nrecord\nrotate X 1e999", 8, "4"),
+            ("max 8\ninitial 1\nrecord\nrotate X 1 sin=2", 8, "4"),
             (&many, 2, "null"),
         ] {
             let circuit = circuit::parse(text.as_bytes()).unwrap();

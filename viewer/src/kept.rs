@@ -1,7 +1,7 @@
 //! A stored plan that is read from its file: the plan where its words make one that can be followed,
 //! else in words why not, with what the file holds.
 
-use midvokt::{file_bytes, load, Reason, Refusal, Scalars, Stored, MOST_RECORDS};
+use midvokt::{file_bytes, load, Reason, Refusal, Scalars, Stored, StoredPlan, MOST_RECORDS};
 
 use crate::checksum::{self, Checksum};
 use crate::figures;

@@ -8,6 +8,8 @@ use crate::kept::MOST_BYTES;
 
 /// The bytes of a word.
 const WORD: usize = 8;
+/// The least bytes that are told as text in UTF-16 without a mark: fewer say too little.
+const LEAST_UTF16: usize = 8;
 
 /// What a file is.
 #[derive(Clone, Copy, Debug, PartialEq, Eq)]
@@ -43,6 +45,17 @@ impl Kind {
             Self::Text => "text",
             Self::Utf16 => "text in UTF-16",
             Self::Binary => "binary data",
+        }
+    }
+
+    /// What to do with a file of this kind where another was asked for by an option, or by none.
+    fn way(self, option: &str) -> String {
+        match self {
+            Self::StoredPlan => "; --stored shows it".to_owned(),
+            Self::List => "; --optimize shows it".to_owned(),
+            Self::Circuit => format!("; it is shown without {option}"),
+            Self::Utf16 => "; save it as UTF-8".to_owned(),
+            _ => String::new(),
         }
     }
 }
@@ -87,12 +100,12 @@ fn behind_markup(text: &str) -> Option<&str> {
 
 /// Whether text begins as an SVG picture does, behind a declaration, comments or a document type.
 fn is_picture(text: &str) -> bool {
-    let begins = text.trim_start().starts_with('<');
-    let opening: String = text.chars().take(OPENING).collect();
-    let place = opening.find("<svg");
-    let ends = |next: char| next.is_whitespace() || next == '>' || next == '/';
-    let name_ends = |rest: &str| rest.starts_with(ends);
-    begins && place.is_some_and(|place| name_ends(&opening[place + "<svg".len()..]))
+    let mut rest = text.trim_start();
+    while rest.starts_with("<?") || rest.starts_with("<!") {
+        rest = behind_markup(rest).unwrap_or("");
+    }
+    let behind_name = rest.strip_prefix("<svg").unwrap_or("");
+    behind_name.starts_with(|c: char| c.is_whitespace() || c == '>' || c == '/')
 }
 
 /// Whether a line of text has one of these words in front, comments aside, in whatever case.
@@ -105,12 +118,6 @@ fn has_line(text: &str, words: &[&str]) -> bool {
     text.lines().any(first)
 }
 
-/// The text that bytes are, without a mark in front; none where they are something else.
-fn text_of(bytes: &[u8]) -> Option<&str> {
-    let text = std::str::from_utf8(bytes).ok()?;
-    (!text.contains('\0')).then(|| text.trim_start_matches('\u{feff}'))
-}
-
 /// What text is.
 fn of_text(text: &str) -> Kind {
     match text {
@@ -121,14 +128,9 @@ fn of_text(text: &str) -> Kind {
     }
 }
 
-/// Whether a byte of text says nothing that a person reads.
-fn is_control(byte: u8) -> bool {
-    byte.is_ascii_control() && !byte.is_ascii_whitespace()
-}
-
 /// Whether bytes are read as UTF-16 of this order without an odd sign, in words that are mostly
 /// of ASCII.
-fn is_utf16(bytes: &[u8], unit: fn([u8; 2]) -> u16) -> bool {
+fn reads_as_utf16(bytes: &[u8], unit: fn([u8; 2]) -> u16) -> bool {
     let units = || bytes.chunks_exact(2).map(|two| unit([two[0], two[1]]));
     let is_odd = |sign: char| sign.is_control() && !sign.is_whitespace();
     let mut signs = char::decode_utf16(units());
@@ -136,12 +138,34 @@ fn is_utf16(bytes: &[u8], unit: fn([u8; 2]) -> u16) -> bool {
     4 * of_ascii > bytes.len() && signs.all(|sign| sign.is_ok_and(|sign| !is_odd(sign)))
 }
 
-/// Whether bytes are text in UTF-16, with a mark in front or without.
-fn is_wide_text(bytes: &[u8]) -> bool {
-    let is_marked = bytes.starts_with(b"\xff\xfe") || bytes.starts_with(b"\xfe\xff");
+/// Whether bytes are text in UTF-16 without a mark in front.
+fn is_unmarked_utf16(bytes: &[u8]) -> bool {
     let has_pairs = bytes.len().is_multiple_of(2) && bytes.contains(&0);
-    let is_read = || is_utf16(bytes, u16::from_le_bytes) || is_utf16(bytes, u16::from_be_bytes);
-    is_marked || has_pairs && is_read()
+    let reads = |unit| reads_as_utf16(bytes, unit);
+    let is_long = bytes.len() >= LEAST_UTF16;
+    is_long && has_pairs && (reads(u16::from_le_bytes) || reads(u16::from_be_bytes))
+}
+
+/// The text that bytes are, without a mark in front; none where they are something else.
+fn text_of(bytes: &[u8]) -> Option<&str> {
+    let text = std::str::from_utf8(bytes).ok()?;
+    (!text.contains('\0')).then(|| text.trim_start_matches('\u{feff}'))
+}
+
+/// What bytes are that are no stored plan.
+fn of_other(bytes: &[u8]) -> Kind {
+    match text_of(bytes) {
+        Some(text) => of_text(text),
+        None if is_utf16(bytes) || is_unmarked_utf16(bytes) => Kind::Utf16,
+        None => Kind::Binary,
+    }
+}
+
+/// Whether binary data may be text in another encoding: no byte is a control character but white
+/// space and the escape character.
+pub fn may_be_text(bytes: &[u8]) -> bool {
+    let may_be = |&byte: &u8| !byte.is_ascii_control() || matches!(byte, 0x09..=0x0d | 0x1b);
+    bytes.iter().all(may_be)
 }
 
 /// What a file with these bytes is.
@@ -149,37 +173,18 @@ pub fn of(bytes: &[u8]) -> Kind {
     match bytes {
         [] => Kind::Empty,
         _ if is_stored_plan(bytes) => Kind::StoredPlan,
-        _ if is_wide_text(bytes) => Kind::Utf16,
-        _ => text_of(bytes).map_or(Kind::Binary, of_text),
+        _ => of_other(bytes),
     }
 }
 
-impl Kind {
-    /// A file of this kind, in words.
-    fn noun(self) -> &'static str {
-        match self {
-            Self::Empty => "an empty file",
-            Self::Picture => "an SVG picture",
-            Self::StoredPlan => "a stored plan",
-            Self::Circuit => "a circuit",
-            Self::List => "a list of pending operations",
-            Self::Text => "text",
-            Self::Utf16 => "text in UTF-16",
-            Self::Binary => "binary data",
-        }
-    }
-
-    /// What to do with a file of this kind where a file of another kind was asked for by an option,
-    /// or by none.
-    fn way(self, option: &str) -> String {
-        match self {
-            Self::StoredPlan => "; --stored shows it".to_owned(),
-            Self::List => "; --optimize shows it".to_owned(),
-            Self::Circuit => format!("; it is shown without {option}"),
-            Self::Utf16 => "; save it as UTF-8".to_owned(),
-            _ => String::new(),
-        }
-    }
+/// What a file is that begins with these bytes and has more than a stored plan: what it is so far,
+/// a character that is cut at the end aside.
+pub fn of_opening(bytes: &[u8]) -> Kind {
+    let end = match std::str::from_utf8(bytes) {
+        Err(error) if error.error_len().is_none() => error.valid_up_to(),
+        _ => bytes.len(),
+    };
+    of_other(&bytes[..end])
 }
 
 /// What is said of a file that is something else than the circuit or the list that was asked for;
@@ -190,12 +195,12 @@ pub fn other(bytes: &[u8], wanted: Kind) -> Option<String> {
     let is_other = match found {
         Kind::Circuit | Kind::List if found == wanted => false,
         Kind::Circuit => !has_width(),
-        Kind::Binary => bytes.iter().copied().any(is_control),
+        Kind::Binary => !may_be_text(bytes),
         Kind::Empty | Kind::Text => false,
         _ => true,
     };
-    let (wanted, way) = (wanted.noun(), found.way("--optimize"));
-    is_other.then(|| format!("expected {wanted}, found {}{way}", found.noun()))
+    let (wanted, way) = (wanted.name(), found.way("--optimize"));
+    is_other.then(|| format!("expected {wanted}, found {}{way}", found.name()))
 }
 
 /// What a file is that is no stored plan, where more than its bytes is to be said of it.
@@ -206,7 +211,7 @@ pub fn unstored(bytes: &[u8]) -> Option<String> {
         Kind::Circuit | Kind::List => found.way("--stored"),
         _ => String::new(),
     };
-    is_told.then(|| format!("it is {} and no stored plan{way}", found.noun()))
+    is_told.then(|| format!("it is {} and no stored plan{way}", found.name()))
 }
 
 #[cfg(test)]
@@ -231,7 +236,7 @@ mod tests {
         let xml = "<?xml version=\"1.0\"?>\n<!-- made elsewhere -->\n<svg width=\"1\"/>";
         assert_eq!(of(xml.as_bytes()), Kind::Picture);
         assert_eq!(of(b"<html><svgs></html>"), Kind::Text);
-        assert_eq!(of(b"<svg/>"), Kind::Picture);
+        assert_eq!(of(b"<html><svg width=\"1\"/></html>"), Kind::Text);
         assert_eq!(of(b"rotate X0 <svg >"), Kind::Text);
         assert_eq!(of("\u{feff}max 8".as_bytes()), Kind::Circuit);
         assert_eq!(of(b"# initial 3\nrecord"), Kind::Text);
@@ -239,12 +244,94 @@ mod tests {
         assert_eq!(of(b"\xfe\xff\0i\0n"), Kind::Utf16);
         assert_eq!(of(b"m\0a\0x\0\x20\0\xc0\x03"), Kind::Utf16);
         assert_eq!(of(b"\0m\0a\0x\0\x0a"), Kind::Utf16);
+        assert_eq!(of(b"\0m\0a\0x"), Kind::Binary);
         assert_eq!(of(b"\0m\0a\0x\0\x01"), Kind::Binary);
         assert_eq!(of(b"\0m\0a\x4e\x01\x4e\x02\x4e\x03"), Kind::Binary);
         assert_eq!(of(b""), Kind::Empty);
         assert_eq!(of(b"a\0b"), Kind::Binary);
         assert_eq!(of(b"\xc3\x28"), Kind::Binary);
         assert_eq!(of(&[0; 128]), Kind::Binary);
+    }
+
+    #[test]
+    fn a_picture_begins_with_its_element() {
+        let pictures = [
+            "<svg/>",
+            "\n <svg\twidth='1'>",
+            "<!-- <html> --><?made?> <!-- again --><svg>",
+            "<!DOCTYPE svg PUBLIC \"-//W3C\" \"a.dtd\">\n<svg >",
+            "<!DOCTYPE svg [ <!ENTITY a \"b\"> ] >\n<svg >",
+        ];
+        for text in pictures {
+            assert_eq!(of(text.as_bytes()), Kind::Picture, "{text}");
+        }
+        let others = [
+            "<svg",
+            "<svgs>",
+            "<!-- <svg> -->",
+            "<!-- <svg>",
+            "<!DOCTYPE svg [ <svg> ",
+            "<!-- a picture --><html><svg></svg></html>",
+            "&lt;<svg>",
+        ];
+        for text in others {
+            assert_eq!(of(text.as_bytes()), Kind::Text, "{text}");
+        }
+    }
+
+    #[test]
+    fn words_and_stored_plans_are_no_text_in_utf_16() {
+        let circuit = circuit::parse(b"initial 65279\nmax 8").unwrap();
+        let words = words::encode(&circuit);
+        assert!(words.starts_with(&[0xff, 0xfe]));
+        assert_eq!(of(&words), Kind::Binary);
+        let mut plan = planning::stored(&circuit::parse(b"initial 3\nmax 8").unwrap()).unwrap();
+        plan[..2].copy_from_slice(&[0xff, 0xfe]);
+        assert_eq!(of(&plan), Kind::StoredPlan);
+    }
+
+    #[test]
+    fn a_stored_plan_is_no_longer_than_one_can_be() {
+        let of_length = |length: usize| {
+            let mut bytes = vec![0; length];
+            bytes[length - 16..length - 8].copy_from_slice(&(length as u64).to_le_bytes());
+            bytes[length - 8..].copy_from_slice(&FILE_VERSION.to_le_bytes());
+            of(&bytes)
+        };
+        assert_eq!(of_length(TRAILER_WORDS * 8 - 8), Kind::Binary);
+        assert_eq!(of_length(TRAILER_WORDS * 8), Kind::StoredPlan);
+        assert_eq!(of_length(TRAILER_WORDS * 8 + 1), Kind::Binary);
+        assert_eq!(of_length(MOST_BYTES), Kind::StoredPlan);
+        assert_eq!(of_length(MOST_BYTES + 8), Kind::Binary);
+    }
+
+    #[test]
+    fn text_of_another_encoding_may_be_told() {
+        assert!(may_be_text(b"initial 3 # caf\xe9\r\n\tmax 8\n\x1b[0m"));
+        for control in [0, 1, 8, 0x0e, 0x1a, 0x1c, 0x1f, 0x7f] {
+            assert!(!may_be_text(&[b'a', control, 0xe9]), "{control}");
+        }
+        let words = words::encode(&circuit::parse(b"initial 3\nmax 8").unwrap());
+        assert!(!may_be_text(&words));
+    }
+
+    #[test]
+    fn an_opening_tells_what_a_long_file_is() {
+        for (text, kind) in [
+            ("<svg>", Kind::Picture),
+            ("max 8\n", Kind::Circuit),
+            ("width 8\n", Kind::List),
+            ("a", Kind::Text),
+        ] {
+            let whole = text.to_owned() + "é";
+            assert_eq!(of_opening(&whole.as_bytes()[..whole.len() - 1]), kind);
+            assert_eq!(of_opening(whole.as_bytes()), kind);
+        }
+        assert_eq!(of_opening(b"a\xc3("), Kind::Binary);
+        assert_eq!(of_opening(b"a\0\xc3"), Kind::Binary);
+        assert_eq!(of_opening(b"\xff\xfea\0b"), Kind::Utf16);
+        let plan = planning::stored(&circuit::parse(b"initial 3\nmax 8").unwrap()).unwrap();
+        assert_eq!(of_opening(&plan), Kind::Binary);
     }
 
     #[test]
@@ -267,7 +354,7 @@ mod tests {
                 Some("a stored plan; --stored shows it"),
                 Some("a stored plan; --stored shows it"),
             ),
-            (b"<svg>", Some("an SVG picture"), Some("an SVG picture")),
+            (b"<svg>", Some("a picture"), Some("a picture")),
             (
                 b"\xff\xfem\0",
                 Some("text in UTF-16; save it as UTF-8"),
@@ -298,7 +385,7 @@ mod tests {
             told(b"width 8"),
             "it is a list of pending operations and no stored plan; --optimize shows it"
         );
-        assert_eq!(told(b"<svg>"), "it is an SVG picture and no stored plan");
+        assert_eq!(told(b"<svg>"), "it is a picture and no stored plan");
         assert_eq!(told(b"{}"), "it is text and no stored plan");
         assert_eq!(
             told(b"\xff\xfe{\0"),

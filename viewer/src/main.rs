@@ -14,6 +14,7 @@ mod files;
 mod heading;
 mod json;
 mod kept;
+mod kernel_sense;
 mod kinds;
 mod lanes;
 mod layout;
@@ -178,7 +179,7 @@ fn stored<'a>(
 fn show(options: &Options, path: &Path) -> Result<Answer, String> {
     let name = path.to_string_lossy();
     let circuit = read(path, &visible(&name), Kind::Circuit, circuit::parse)?;
-    let view = View::of(&name, &circuit);
+    let mut view = View::of(&name, &circuit);
     let words = options.words.as_ref().map(|path| Output {
         path,
         bytes: words::encode(&circuit),

