@@ -42,18 +42,19 @@ fn fused(stats: &PendingOptimizationStats) -> String {
     format!("{pairs} of rotations about one Pauli; {cancelled}")
 }
 
-/// How many measurements moved where that is known, and how often one passed a rotation.
+/// How many measurements moved where that is known, and how many pairs there are of one and a
+/// rotation that it passed.
 fn moved(stats: &PendingOptimizationStats, replay: Option<&Replay>) -> String {
     if stats.measurement_left_swaps == 0 {
         return "no measurement".to_owned();
     }
     let count = |number: usize, one, more| figures::count(number as u64, one, more);
-    let times = count(stats.measurement_left_swaps, "time", "times");
+    let pairs = count(stats.measurement_left_swaps, "pair", "pairs");
     let moved = match replay.map(|replay| replay.moves.len()) {
         Some(moved) => count(moved, "measurement", "measurements"),
         None => "measurements".to_owned(),
     };
-    format!("{moved}; {times} one passes a rotation")
+    format!("{moved}: {pairs} of one and a rotation that it passed")
 }
 
 /// Whether something changed, and how much.
@@ -328,7 +329,7 @@ mod tests {
         let wanted = "\
 OPTIMIZED: 8 operations before, 5 after
   fused    2 pairs of rotations about one Pauli; 1 cancels
-  moved    1 measurement; 1 time one passes a rotation
+  moved    1 measurement: 1 pair of one and a rotation that it passed
 
 Before
    no.  line  operation          what becomes of it

@@ -353,10 +353,10 @@ impl Reader {
     }
 
     /// That what is printed in brief is a plan for a person.
-    fn brief_fits(&self) -> Result<(), String> {
+    fn brief_fits(&self, subject: &Subject) -> Result<(), String> {
         let others = [
             ("--json", self.json),
-            ("--optimize", self.optimize.is_some()),
+            ("--optimize", matches!(subject, Subject::List(_))),
         ];
         let given = others.iter().find(|(_, is_given)| self.brief && *is_given);
         given.map_or(Ok(()), |(name, _)| {
@@ -367,7 +367,7 @@ impl Reader {
     /// The options, if a circuit, a stored plan or a list is named.
     fn finish(mut self) -> Result<Options, String> {
         let subject = self.subject()?;
-        self.brief_fits()?;
+        self.brief_fits(&subject)?;
         let of_terminal = || terminal::columns().unwrap_or(USUAL_COLUMNS);
         let columns = self.columns.unwrap_or_else(of_terminal);
         Ok(Options {
