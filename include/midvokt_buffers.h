@@ -125,8 +125,8 @@ typedef struct midvokt_buffers {
 /* Gets buffers that are enough for n records, one block of zeros, from calloc. What the struct
  * held before is not looked at. Returns MIDVOKT_MADE; or MIDVOKT_NOT_MADE where there is not so
  * much memory, or no size_t counts its bytes, or the struct is null. Then the lengths are 0, and
- * planning that reads records is refused with MIDVOKT_REFUSED_BUFFERS. A struct that was got before
- * is given back first by its caller. */
+ * planning that reads records is refused with MIDVOKT_REFUSED_BUFFERS. A caller that asks again
+ * with the same struct gives back first what it got. */
 static inline int midvokt_buffers_alloc(midvokt_buffers *buffers, size_t n)
 {
     const size_t fixed = MIDVOKT_BUFFERS_WORDS(0);
@@ -465,9 +465,9 @@ static inline int midvokt_write_pauli(uint64_t *record, uint64_t kind, uint64_t 
 /* Each builder writes the eight words of one record. It returns MIDVOKT_MADE; or
  * MIDVOKT_NOT_MADE where the Pauli cannot be read over `width` positions (see
  * midvokt_read_pauli), and the record gets MIDVOKT_NO_KIND. A record at null is not made, and not
- * written. `width` is the number of active coordinates. Nothing else is judged. The call judges the
- * angle and the pivot; whether the Pauli is Hermitian it asks only where a measurement has no
- * local x bit (MIDVOKT_REFUSED_EIGENVALUES), so that no sign i or -i should be given here. */
+ * written. `width` is the number of active coordinates. Nothing else is judged. The call judges
+ * the angle and the pivot; whether the Pauli is Hermitian it asks only where a measurement has
+ * no local x bit (MIDVOKT_REFUSED_EIGENVALUES), so that no sign i or -i should be given here. */
 
 /* The rotation exp(-i angle P), with the sine and the cosine of the angle. A gate that turns by
  * theta has the angle theta/2. */

@@ -19,7 +19,8 @@ library optimize a list of pending operations, and shows it before and after
          [--brief] [--columns N] CIRCUIT   or --stored FILE in place of CIRCUIT
   ./show --optimize LIST [--json] [--columns N]
 
-CIRCUIT is a file, or - for standard input. One record a line; # is a comment.
+CIRCUIT is a file, or - for standard input, of at most 4,194,304 bytes, with one
+record a line; # is a comment.
   initial N              active coordinates at the start (needed, comes first)
   max N                  the dense peak is 2^N (needed, comes first; no default,
                          since it decides the choice; below 8 nothing is read)
@@ -40,8 +41,8 @@ PAULI  -_ZZ         a sign and a letter for each active coordinate, position 0
                     x, Z sets z, Y both; the sign - adds 2 to it, i 1, each Y 1
 ANGLE  in radians: 0.25, or a part of pi: pi/8, -3pi/4
 
-LIST is a file, or - for standard input, of operations that are not planned
-yet: a line 'width N' (qubits, 1 to 64), then a line each; # is a comment.
+LIST is a file likewise, of operations that are not planned yet: a line
+'width N' (qubits, 1 to 64), then a line each; # is a comment.
   rotate PAULI ANGLE [if SIGN]         exp(-i ANGLE PAULI); with SIGN 1, -PAULI
   measure PAULI [record N] [as sN] [if SIGN]    to record N, known as sN
   expect PAULI value N [...]           an expectation value in place of an
@@ -67,8 +68,8 @@ a line a record; the components' lives as lanes; the final groups.
                 bits each, little-endian
   --store FILE  the plan as a file besides, to be kept (include/midvokt.h); the
                 ceiling is not stored
-  --stored FILE shows such a file, or by - standard input; with no circuit, no
-                --words and no --store
+  --stored FILE shows such a file, or by - standard input, with the checksum of
+                the command cksum; with no circuit, --words or --store
   --force       an output replaces any file; else only an empty one, or one of
                 its kind: a picture, a stored plan, or for words binary data
                 that is no stored plan
