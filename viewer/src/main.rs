@@ -328,3 +328,14 @@ fn main() -> ExitCode {
         MALFORMED
     }))
 }
+
+#[cfg(test)]
+mod tests {
+    use super::*;
+
+    #[test]
+    fn the_help_says_how_long_a_circuit_may_be() {
+        let most = figures::whole(MOST_BYTES as u64);
+        assert!(options::HELP.contains(&format!("at most {most} bytes")));
+    }
+}
