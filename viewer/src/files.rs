@@ -21,20 +21,26 @@ pub const STANDARD_INPUT: &str = "-";
 /// As many links are followed as the system follows.
 const MOST_LINKS: usize = 40;
 
-/// The bytes of a file, or of standard input; none where there are more than so many, of which no
-/// more are read.
-pub fn read_at_most(path: &Path, most: usize) -> io::Result<Option<Vec<u8>>> {
+/// The first bytes of a file, or of standard input: all where there are no more than so many, else
+/// one more than that.
+pub fn read_opening(path: &Path, most: usize) -> io::Result<Vec<u8>> {
     let mut bytes = Vec::new();
     let more = most as u64 + 1;
     match path.as_os_str() == STANDARD_INPUT {
         true => io::stdin().lock().take(more).read_to_end(&mut bytes)?,
         false => File::open(path)?.take(more).read_to_end(&mut bytes)?,
     };
+    Ok(bytes)
+}
+
+/// The bytes of a file, or of standard input; none where there are more than so many.
+pub fn read_at_most(path: &Path, most: usize) -> io::Result<Option<Vec<u8>>> {
+    let bytes = read_opening(path, most)?;
     Ok((bytes.len() <= most).then_some(bytes))
 }
 
-/// What kind of file is there, text in any encoding told as text; of a file that is longer than a
-/// stored plan no more is read than tells that.
+/// What kind of file is there, text in any encoding told as text, and a stored plan with a damaged
+/// end as one; of a file that is longer than a stored plan no more is read than tells that.
 fn kind_of(path: &Path) -> io::Result<Kind> {
     let mut bytes = Vec::new();
     let most = MOST_BYTES as u64 + 1;
@@ -44,7 +50,8 @@ fn kind_of(path: &Path) -> io::Result<Kind> {
         false => kinds::of(&bytes),
     };
     Ok(match kind {
-        Kind::Binary if kinds::may_be_text(&bytes) => Kind::Text,
+        Kind::Binary if kinds::may_hold_text(&bytes) => Kind::Text,
+        Kind::Binary if kinds::may_be_stored_plan(&bytes) => Kind::StoredPlan,
         kind => kind,
     })
 }

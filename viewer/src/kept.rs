@@ -26,11 +26,11 @@ pub enum Fault {
 /// work that may stay the same where 1 is added, and of one without.
 const UNCHECKED: &str = "that each angle belongs to its sine and cosine; a cosine's sign and \
     digits too low for the sum of the squares; the sign of a sine of 0; masks, sources and \
-    pivots where others make a plan too";
+    pivots where others make a plan too; the dense peak where the choice is the same";
 const UNCHECKED_OF_LARGE_WORK: &str =
     "; whether a record is a global phase where no coordinate is active";
 const LARGE_WORK: f64 = (1u64 << 53) as f64;
-const UNCHECKED_OF_NOTHING: &str = "how many coordinates there are at the start";
+const UNCHECKED_OF_NOTHING: &str = "how many coordinates there are at the start; the dense peak";
 
 /// What of a plan that is shown was not checked, since its circuit alone tells it.
 pub fn unchecked(plan: &StoredPlan) -> String {
@@ -45,27 +45,35 @@ pub fn unchecked(plan: &StoredPlan) -> String {
 /// The most bytes that a stored plan has.
 pub const MOST_BYTES: usize = file_bytes(MOST_RECORDS);
 
-/// What is said of a longer file.
-fn too_long() -> String {
-    format!(
+/// What is said of a longer file that begins with these bytes.
+fn too_long(opening: &[u8]) -> String {
+    let too_long = format!(
         "it is longer than {} bytes, and the plan of {} records is not",
         figures::whole(MOST_BYTES as u64),
         figures::whole(MOST_RECORDS as u64)
-    )
+    );
+    kinds::unstored(kinds::of_opening(opening)).unwrap_or(too_long)
 }
 
 /// Why a file is refused; the number's own sentence where nothing more is known.
 fn refused(bytes: &[u8], refusal: Refusal) -> Fault {
-    let other = (refusal.reason == Reason::File).then(|| kinds::unstored(bytes));
+    let other = (refusal.reason == Reason::File).then(|| kinds::unstored(kinds::of(bytes)));
     let why = trailer::why(bytes).filter(|(number, _)| *number == refusal.number());
     let why = other.flatten().or(why.map(|(_, words)| words));
     let words = why.unwrap_or(refusal.sentence().to_owned());
     Fault::Refused(refusal, words)
 }
 
-/// The plan of a file's bytes, which are none where there are more than a plan has.
-pub fn view<'a>(name: &'a str, bytes: Option<&[u8]>) -> Result<View<'a>, Fault> {
-    let bytes = bytes.ok_or_else(|| Fault::Senseless(too_long(), None))?;
+/// Whether a file with these first bytes may be a stored plan by its length.
+pub fn is_whole(bytes: &[u8]) -> bool {
+    bytes.len() <= MOST_BYTES
+}
+
+/// The plan of a file's bytes, of which there is one more than a plan has where it is longer.
+pub fn view<'a>(name: &'a str, bytes: &[u8]) -> Result<View<'a>, Fault> {
+    if !is_whole(bytes) {
+        return Err(Fault::Senseless(too_long(bytes), None));
+    }
     let plan = match load(bytes).map_err(|refusal| refused(bytes, refusal))? {
         Stored::Plan(plan) => plan,
         Stored::Words { words, misfit } => {
@@ -160,7 +168,7 @@ mod tests {
 
     /// All that is shown of a file.
     fn shown(bytes: &[u8]) -> (bool, String) {
-        match view("-", Some(bytes)) {
+        match view("-", bytes) {
             Ok(view) => {
                 let all = [
                     text::plan(&view, &STYLE),
@@ -246,10 +254,18 @@ mod tests {
 
     #[test]
     fn a_longer_file_than_a_plan_has_is_told() {
-        let Err(fault) = view("-", None) else {
-            panic!("a plan");
+        let told = |opening: &str| {
+            let mut bytes = opening.as_bytes().to_vec();
+            bytes.resize(MOST_BYTES + 1, opening.bytes().last().unwrap_or(0));
+            shown(&bytes).1
         };
-        let told = super::text("-", None, &fault, "", &STYLE);
-        assert!(told.contains("it is longer than 204,984 bytes"), "{told}");
+        assert!(told("").contains("it is longer than 204,984 bytes"));
+        let found = told("<svg>\n");
+        assert!(
+            found.contains("it is a picture and no stored plan"),
+            "{found}"
+        );
+        let found = told("initial 3\n");
+        assert!(found.contains("it is a circuit and no stored plan; it is shown without --stored"));
     }
 }

@@ -67,13 +67,24 @@ fn word_before_end(bytes: &[u8], behind: usize) -> Option<u64> {
     Some(u64::from_le_bytes(word.try_into().ok()?))
 }
 
-/// Whether bytes end as a stored plan does, with their own length and a version, and are no more
-/// than one has.
-fn is_stored_plan(bytes: &[u8]) -> bool {
+/// Whether bytes end with their own length and with a version, as a stored plan does; neither where
+/// there are more than one has, or fewer.
+fn ends(bytes: &[u8]) -> [bool; 2] {
     let has_length = (TRAILER_WORDS * WORD..=MOST_BYTES).contains(&bytes.len());
+    let has_words = has_length && bytes.len().is_multiple_of(WORD);
     let says_length = word_before_end(bytes, WORD) == Some(bytes.len() as u64);
-    let has_words = bytes.len().is_multiple_of(WORD);
-    has_length && has_words && says_length && word_before_end(bytes, 0) == Some(FILE_VERSION)
+    let says_version = word_before_end(bytes, 0) == Some(FILE_VERSION);
+    [says_length, says_version].map(|says| has_words && says)
+}
+
+/// Whether bytes end as a stored plan does.
+fn is_stored_plan(bytes: &[u8]) -> bool {
+    ends(bytes) == [true; 2]
+}
+
+/// Whether bytes may be a stored plan with a damaged end: one of its last two words is right.
+pub fn may_be_stored_plan(bytes: &[u8]) -> bool {
+    ends(bytes) != [false; 2]
 }
 
 /// Whether bytes begin as text in UTF-16 does, and no unit of them is 0.
@@ -108,14 +119,19 @@ fn is_picture(text: &str) -> bool {
     behind_name.starts_with(|c: char| c.is_whitespace() || c == '>' || c == '/')
 }
 
-/// Whether a line of text has one of these words in front, comments aside, in whatever case.
+/// Whether a line of text has one of these words in front and a number behind it, comments aside,
+/// in whatever case.
 fn has_line(text: &str, words: &[&str]) -> bool {
-    let first = |line: &str| {
-        let said = line.split('#').next().unwrap_or("");
-        let word = said.split_whitespace().next().unwrap_or("");
-        words.iter().any(|known| word.eq_ignore_ascii_case(known))
+    let is_one = |line: &str| {
+        let mut said = line.split('#').next().unwrap_or("").split_whitespace();
+        let first = said.next().unwrap_or("");
+        let is_known = words.iter().any(|known| first.eq_ignore_ascii_case(known));
+        is_known
+            && said
+                .next()
+                .is_some_and(|word| word.starts_with(|c: char| c.is_ascii_digit()))
     };
-    text.lines().any(first)
+    text.lines().any(is_one)
 }
 
 /// What text is.
@@ -168,6 +184,14 @@ pub fn may_be_text(bytes: &[u8]) -> bool {
     bytes.iter().all(may_be)
 }
 
+/// Whether binary data may be text with zero bytes in it, as text in UTF-32 is: of the others none
+/// is a control character, and they are more than a fifth. Of words they are fewer, or control
+/// characters.
+pub fn may_hold_text(bytes: &[u8]) -> bool {
+    let others: Vec<_> = bytes.iter().copied().filter(|&byte| byte != 0).collect();
+    5 * others.len() > bytes.len() && may_be_text(&others)
+}
+
 /// What a file with these bytes is.
 pub fn of(bytes: &[u8]) -> Kind {
     match bytes {
@@ -203,9 +227,8 @@ pub fn other(bytes: &[u8], wanted: Kind) -> Option<String> {
     is_other.then(|| format!("expected {wanted}, found {}{way}", found.name()))
 }
 
-/// What a file is that is no stored plan, where more than its bytes is to be said of it.
-pub fn unstored(bytes: &[u8]) -> Option<String> {
-    let found = of(bytes);
+/// What is said of a file of this kind that is no stored plan; nothing where its bytes say more.
+pub fn unstored(found: Kind) -> Option<String> {
     let is_told = !matches!(found, Kind::Empty | Kind::StoredPlan | Kind::Binary);
     let way = match found {
         Kind::Circuit | Kind::List => found.way("--stored"),
@@ -229,6 +252,10 @@ mod tests {
         assert_eq!(of(&words::encode(&circuit)), Kind::Binary);
         assert_eq!(of(text.as_bytes()), Kind::Circuit);
         assert_eq!(of(b"# a list\n WIDTH 3\nrecord 1"), Kind::List);
+        assert_eq!(
+            of(b"Max will come\non Monday\nwidth of the door"),
+            Kind::Text
+        );
     }
 
     #[test]
@@ -376,7 +403,7 @@ mod tests {
 
     #[test]
     fn what_is_no_stored_plan_is_told() {
-        let told = |bytes: &[u8]| unstored(bytes).unwrap_or_default();
+        let told = |bytes: &[u8]| unstored(of(bytes)).unwrap_or_default();
         assert_eq!(
             told(b"max 8"),
             "it is a circuit and no stored plan; it is shown without --stored"

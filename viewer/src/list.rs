@@ -363,7 +363,8 @@ fn product(string: &PauliString) -> String {
 /// The Pauli of an operation as masks in hexadecimal, with the exponent of i.
 fn masks(string: &PauliString) -> String {
     let (x, z) = (string.x[0], string.z[0]);
-    format!("x={x:#x} z={z:#x} phase={}", string.phase_exponent())
+    let phase = string.phase_exponent() as u64;
+    pauli::masks(pauli::Pauli { x, z, phase })
 }
 
 /// An operation as a line of a file, its Pauli written in this way.

@@ -94,19 +94,26 @@ fn read<T>(
     }
 }
 
-/// Writes all files, or says which one cannot be written, or may not replace what is there.
+/// Writes all files, or says which ones may not replace what is there, or which cannot be written.
 fn write(options: &Options, outputs: &[Output<'_>]) -> Result<(), String> {
-    let name = |output: &Output<'_>| visible(&output.path.to_string_lossy());
-    let misfit = |output| Some(format!("{}: {}\n", name(output), output.misfit()?));
-    if let Some(message) = outputs.iter().filter(|_| !options.force).find_map(misfit) {
-        return Err(message);
+    let mut said: Vec<_> = match options.force {
+        true => vec![None; outputs.len()],
+        false => outputs.iter().map(Output::misfit).collect(),
+    };
+    if said.iter().all(Option::is_none) {
+        let Err((failed, error)) = files::write_all(outputs) else {
+            return Ok(());
+        };
+        said[failed] = Some(format!("cannot be written: {error}"));
     }
-    files::write_all(outputs).map_err(|(failed, error)| {
-        let mut text = format!("{}: cannot be written: {error}\n", name(&outputs[failed]));
-        let others = outputs.iter().enumerate().filter(|(i, _)| *i != failed);
-        text.extend(others.map(|(_, other)| format!("{}: not written either\n", name(other))));
-        text
-    })
+    let mut all: Vec<_> = outputs.iter().zip(said).collect();
+    all.sort_by_key(|(_, said)| said.is_none());
+    let line = |(output, said): (&Output<'_>, Option<String>)| {
+        let name = visible(&output.path.to_string_lossy());
+        let said = said.unwrap_or("not written either".to_owned());
+        format!("{name}: {said}\n")
+    };
+    Err(all.into_iter().map(line).collect())
 }
 
 /// What is not written where there is no plan, a line each.
@@ -229,10 +236,10 @@ fn faulty(options: &Options, name: &str, checksum: Option<Checksum>, fault: &Fau
 /// Reads a stored plan, writes the picture that is asked for, and gives what is printed.
 fn show_stored(options: &Options, path: &Path) -> Result<Answer, String> {
     let name = path.to_string_lossy();
-    let bytes = files::read_at_most(path, kept::MOST_BYTES)
+    let bytes = files::read_opening(path, kept::MOST_BYTES)
         .map_err(|error| format!("{}: cannot be read: {error}\n", visible(&name)))?;
-    let checksum = bytes.as_deref().map(Checksum::of);
-    let mut view = match kept::view(&name, bytes.as_deref()) {
+    let checksum = kept::is_whole(&bytes).then(|| Checksum::of(&bytes));
+    let mut view = match kept::view(&name, &bytes) {
         Ok(view) => view,
         Err(fault) => return Ok(faulty(options, &name, checksum, &fault)),
     };

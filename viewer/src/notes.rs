@@ -13,6 +13,7 @@ use crate::circuit::{Circuit, Placed};
 use crate::figures;
 use crate::pauli::{self, Pauli};
 use crate::planning::selected_with;
+use crate::sense::MOST_COMPONENTS;
 use crate::text;
 
 /// The most characters of a Pauli that a note shows.
@@ -20,6 +21,8 @@ const MOST_OF_PAULI: usize = 24;
 /// How far a sine or a cosine may be from the angle's, 2^-40: an angle that was written with
 /// twelve decimals is nearer.
 const NEAR: f64 = 1.0 / (1_u64 << 40) as f64;
+/// The most degrees that an angle past 2 pi is taken for: ten turns.
+const MOST_DEGREES: f64 = 3600.0;
 /// How far the squares of a sine and a cosine that are of one angle may be from 1, 2^-50.
 const ROUNDED: f64 = 1.0 / (1_u64 << 50) as f64;
 
@@ -79,7 +82,7 @@ pub fn past_two_pi(angle: f64) -> Option<String> {
     }
     let said = angle::text(angle);
     let past = format!("the angle {said} is past 2 pi");
-    match said.contains("pi") {
+    match said.contains("pi") || angle.abs() > MOST_DEGREES {
         true => Some(past),
         false => {
             let radians = angle::of_degrees(angle);
@@ -113,9 +116,13 @@ fn otherwise(circuit: &Circuit, other: u64) -> Option<String> {
     Some(format!("; with max {other} {words}"))
 }
 
-/// The note on a max with which records are read, if the register grows beyond it or not up to it.
+/// The note on a max with which records are read, if the register grows beyond it or not up to it;
+/// nothing of a circuit that is refused since it grows beyond any register.
 fn of_choice(circuit: &Circuit) -> Option<String> {
     let (max, widest) = (circuit.head.max_k, circuit.widest());
+    if widest > MOST_COMPONENTS as u64 {
+        return None;
+    }
     let other = widest.max(LEAST_MAX);
     let place = match max.cmp(&other) {
         Ordering::Less => "below",
@@ -238,6 +245,8 @@ mod tests {
             told(10, "promote\nmeasure Z0 pivot 99"),
             ["max 10 is above the widest register, 9 coordinates: the choice counts with 2^10"]
         );
+        let grown = |initial| notes(&format!("initial {initial}\nmax 8"), "promote").len();
+        assert_eq!([511, 512, u64::MAX].map(grown), [1, 0, 0]);
         // Nor does a max count that is refused, or that a bad ceiling would judge.
         for head in [
             "max 62",
@@ -342,6 +351,8 @@ mod tests {
              -0.12217304763960307"
         );
         assert_eq!(said(1.25 * TAU), "the angle 5pi/2 is past 2 pi");
-        assert!(said(-f64::MAX).contains(" is past 2 pi; "));
+        assert!(said(3600.0).contains(" is past 2 pi; "));
+        assert!(said(3601.0).ends_with(" is past 2 pi"));
+        assert!(said(-f64::MAX).ends_with(" is past 2 pi"));
     }
 }

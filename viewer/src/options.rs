@@ -50,12 +50,12 @@ LIST is a file likewise, of operations that are not planned yet: a line
   record SIGN [to N] [as sN]           a bit that is written, no qubit touched
   keep [N]                             nothing crosses this boundary, or the one
                                        behind the first N operations
-SIGN   s1^s3, an exclusive or of symbols; not s1^s3; 0 or 1
+SIGN   s1^s3, an exclusive or of up to 8 symbols, s1 on; not s1^s3; 0 or 1
 Of a list it prints how much the library fused, cancelled and moved; the list
 before, with what becomes of each operation; and the list after. No operation is
-cut: one without room on a line is written with masks, or wrapped. From
-223 columns on each of the list after has one line, as it can be given again;
---json has it so at any width.
+cut: one without room on a line is written with masks, or wrapped.
+From 223 columns on each of the list after has one line, which can be given
+again, but for an angle that was fused past 2^20; --json has it so at any width.
 
 Of a plan it prints the choice with both sides of each test; notes on what may
 be meant otherwise; works, and how many times cheaper the split is; dimensions;

@@ -86,6 +86,12 @@ pub fn letters(pauli: Pauli, width: usize) -> String {
     format!("{}{body}", written_sign(pauli))
 }
 
+/// The same as masks in hexadecimal, with the exponent of i: short at every width.
+pub fn masks(pauli: Pauli) -> String {
+    let Pauli { x, z, phase } = pauli;
+    format!("x={x:#x} z={z:#x} phase={phase}")
+}
+
 /// The same as a product of the letters that act; I0 where none does.
 pub fn product(pauli: Pauli) -> String {
     let acting = (0..MASK_BITS as usize).filter(|&place| (pauli.x | pauli.z) >> place & 1 == 1);

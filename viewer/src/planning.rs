@@ -147,9 +147,11 @@ impl<'a> View<'a> {
         }
     }
 
-    /// The same in letters.
-    pub fn local_letters(&self, event: &Event) -> String {
+    /// The same in letters, or as masks where the letters are more than so many, so that two that
+    /// differ are told differently.
+    pub fn local_text(&self, event: &Event, most: usize) -> String {
         match self.action(event) {
+            Some(action) if action.nqubits > most => pauli::masks(local(action)),
             Some(action) => pauli::letters(local(action), action.nqubits),
             None => String::new(),
         }
@@ -185,9 +187,11 @@ mod tests {
             .replay
             .events
             .iter()
-            .map(|event| view.local_letters(event))
+            .map(|event| view.local_text(event, 3))
             .collect();
         assert_eq!(letters, ["-XY", "_ZZ", ""]);
+        let masked = view.local_text(&view.replay.events[1], 2);
+        assert_eq!(masked, "x=0x0 z=0x6 phase=0");
     }
 
     /// What the library says of a circuit, and how many members its refused record joins.

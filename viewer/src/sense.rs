@@ -12,7 +12,7 @@ use crate::figures;
 
 /// The most components that a program can make, and the most members that one can have: below the
 /// largest ceiling, since a stored plan does not hold its own.
-const MOST_COMPONENTS: usize = 512;
+pub const MOST_COMPONENTS: usize = 512;
 const MOST_MEMBERS: usize = LARGEST_CEILING as usize - 1;
 
 const NO_ROW: &str = "its row is not there";

@@ -21,7 +21,8 @@ use crate::notes;
 use crate::planning::{self, View};
 use crate::works::Works;
 
-/// The most characters of a record's own line, and of a local Pauli, that the table shows.
+/// The most characters of a record's own line, and the most letters of a local Pauli, that the table
+/// shows.
 const MOST_OF_LINE: usize = 32;
 const MOST_OF_PAULI: usize = 24;
 /// The most characters of a refused record's line that are shown, and the most notes.
@@ -226,16 +227,16 @@ pub fn deed(view: &View<'_>, event: &Event) -> String {
         1 => format!("{} joins {component}", event.joined[0]),
         _ => format!("{} join {component}", figures::list(&event.joined)),
     };
-    let letters = figures::cut(&view.local_letters(event), MOST_OF_PAULI);
+    let pauli = view.local_text(event, MOST_OF_PAULI);
     match event.deed {
         Deed::Promotion => format!("new component {component}: {members}"),
-        Deed::Rotation => format!("{place}: {members}; rotates {letters}"),
+        Deed::Rotation => format!("{place}: {members}; rotates {pauli}"),
         Deed::Measurement { leaves, empties } => {
             let end = match empties {
                 true => format!(", component {component} ends"),
                 false => String::new(),
             };
-            format!("{place}: {members}; measures {letters}, {leaves} leaves{end}")
+            format!("{place}: {members}; measures {pauli}, {leaves} leaves{end}")
         }
     }
 }
