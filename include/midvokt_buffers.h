@@ -189,7 +189,8 @@ static inline const void *midvokt_given(const void *data)
 }
 
 /* How many words so many records have. Where they are more than MIDVOKT_MOST_RECORDS, or more
- * than 0 and at null, it is a number that is refused with MIDVOKT_REFUSED_RECORD_WORDS. */
+ * than 0 and at null, it is a number that is refused with MIDVOKT_REFUSED_RECORD_WORDS by planning
+ * that reads records. */
 static inline size_t midvokt_words_of(const uint64_t *records, size_t count)
 {
     if (records == NULL)
@@ -206,8 +207,8 @@ static inline size_t midvokt_words_of(const uint64_t *records, size_t count)
 
 /* midvokt_plan of so many records, which stand one behind the other, with these buffers: returns
  * its number. Of an array uint64_t records[N][MIDVOKT_RECORD_WORDS] give records[0]. Records at
- * null, with a count that is not 0, are refused with MIDVOKT_REFUSED_RECORD_WORDS; buffers at null
- * with MIDVOKT_REFUSED_BUFFERS. */
+ * null, with a count that is not 0, are refused with MIDVOKT_REFUSED_RECORD_WORDS by planning that
+ * reads records; buffers at null always with MIDVOKT_REFUSED_BUFFERS. */
 static inline uint64_t midvokt_plan_records(midvokt_head head, const uint64_t *records,
                                             size_t count, midvokt_buffers *buffers)
 {

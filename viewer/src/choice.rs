@@ -1,11 +1,11 @@
 //! Why a plan is selected or not: the four tests of the choice, each with its two sides. The
-//! field of a plan that was planned now decides, and the tests are computed again only to be shown;
-//! a stored plan is held to them.
+//! field of a plan that was planned now decides, and the tests are computed again only to be
+//! shown; a stored plan is held to them.
 
 use midvokt::{ActiveComponentStepKind as Kind, Head, StoredPlan};
 
 use crate::figures;
-use crate::sense::require;
+use crate::sense::{self, require};
 use crate::text;
 
 /// The least max with which records are read.
@@ -136,7 +136,7 @@ impl Choice {
 
     /// The tests of a stored plan, which tells of its head no more than the dense peak.
     pub fn of_stored(plan: &StoredPlan) -> Self {
-        match plan.instruction_steps.is_empty() && plan.component_count == 0 && !plan.selected {
+        match sense::is_empty(plan) && !plan.selected {
             true => Self::Nothing,
             false => Self::tested(plan),
         }

@@ -79,18 +79,7 @@ struct Reader {
 impl Reader {
     /// Reads a line and notes what is bad in it.
     fn line(&mut self, line: &Line<'_>) {
-        let Some(first) = line.words.first() else {
-            return;
-        };
-        let read = match first.meant(&FIRST_WORDS) {
-            Some(word) => {
-                // It is read as what is meant, so that lines behind it are held to that.
-                let _ = self.words(&line.beginning(word));
-                Err(first.in_small_letters(word))
-            }
-            None => self.words(line),
-        };
-        if let Err(fault) = read {
+        if let Err(fault) = line.read(&FIRST_WORDS, |line| self.words(line)) {
             self.faults.push(fault);
         }
     }

@@ -42,14 +42,13 @@ pub fn read_at_most(path: &Path, most: usize) -> io::Result<Option<Vec<u8>>> {
 /// What kind of file is there, text in any encoding told as text, and a stored plan with a damaged
 /// end as one; of a file that is longer than a stored plan no more is read than tells that.
 fn kind_of(path: &Path) -> io::Result<Kind> {
-    let mut bytes = Vec::new();
-    let most = MOST_BYTES as u64 + 1;
-    File::open(path)?.take(most).read_to_end(&mut bytes)?;
+    let bytes = read_opening(path, MOST_BYTES)?;
     let kind = match bytes.len() > MOST_BYTES {
         true => kinds::of_opening(&bytes),
         false => kinds::of(&bytes),
     };
     Ok(match kind {
+        Kind::Binary if kinds::may_be_words(&bytes) => Kind::Binary,
         Kind::Binary if kinds::may_hold_text(&bytes) => Kind::Text,
         Kind::Binary if kinds::may_be_stored_plan(&bytes) => Kind::StoredPlan,
         kind => kind,

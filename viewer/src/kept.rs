@@ -22,8 +22,8 @@ pub enum Fault {
     Senseless(String, Option<Scalars>),
 }
 
-/// What of a stored plan nothing tells: of one with steps or components, of such a one with a dense
-/// work that may stay the same where 1 is added, and of one without.
+/// What of a stored plan nothing tells: of one with steps or components, of such a one with a
+/// dense work that may stay the same where 1 is added, and of one without.
 const UNCHECKED: &str = "that each angle belongs to its sine and cosine; a cosine's sign and \
     digits too low for the sum of the squares; the sign of a sine of 0; masks, sources and \
     pivots where others make a plan too; the dense peak where the choice is the same";
@@ -224,13 +224,8 @@ mod tests {
                 damaged[start..start + 8].copy_from_slice(&word.to_le_bytes());
                 let (is_plan, shown) = shown(&damaged);
                 plans += usize::from(is_plan);
-                let inner = shown
-                    .replace("(the float inf)", "")
-                    .replace("(the float NaN)", "");
-                assert!(
-                    !is_plan || !inner.contains("inf") && !inner.contains("NaN"),
-                    "{shown}"
-                );
+                let is_finite = !shown.contains("inf") && !shown.contains("NaN");
+                assert!(!is_plan || is_finite, "{shown}");
             }
         }
         assert!(plans > 100, "{plans}");
@@ -266,6 +261,7 @@ mod tests {
             "{found}"
         );
         let found = told("initial 3\n");
-        assert!(found.contains("it is a circuit and no stored plan; it is shown without --stored"));
+        let wanted = "it is a circuit and no stored plan; it is shown without --stored";
+        assert!(found.contains(wanted), "{found}");
     }
 }

@@ -71,6 +71,16 @@ fn action(action: &ActivePauliAction) -> Result<usize, String> {
     Ok(exponent)
 }
 
+/// What the squares of a sine and a cosine sum to, each operation rounded.
+fn squares(sine: f64, cosine: f64) -> f64 {
+    sine * sine + cosine * cosine
+}
+
+/// Whether a sine and a cosine are of one angle, as far as their squares tell.
+pub fn are_of_one_angle(sine: f64, cosine: f64) -> bool {
+    (1.0 - LEEWAY..=1.0 + LEEWAY).contains(&squares(sine, cosine))
+}
+
 /// The angle is finite, and sine and cosine are of one angle, as far as their squares tell.
 fn floats(kernel: &Rotation) -> Result<(), String> {
     let (angle, sine, cosine) = (
@@ -86,8 +96,8 @@ fn floats(kernel: &Rotation) -> Result<(), String> {
             format!("its {name} is {float:?}, and one from -1 to 1 is expected")
         })?;
     }
-    let sum = sine * sine + cosine * cosine;
-    require((1.0 - LEEWAY..=1.0 + LEEWAY).contains(&sum), || {
+    require(are_of_one_angle(sine, cosine), || {
+        let sum = squares(sine, cosine);
         format!(
             "its sine and cosine are of no one angle: their squares sum to {sum:?}, \
              and to 1 is expected, give or take 2^-50"

@@ -67,8 +67,8 @@ fn word_before_end(bytes: &[u8], behind: usize) -> Option<u64> {
     Some(u64::from_le_bytes(word.try_into().ok()?))
 }
 
-/// Whether bytes end with their own length and with a version, as a stored plan does; neither where
-/// there are more than one has, or fewer.
+/// Whether bytes end with their own length and with a version, as a stored plan does; neither
+/// where there are more than one has, or fewer.
 fn ends(bytes: &[u8]) -> [bool; 2] {
     let has_length = (TRAILER_WORDS * WORD..=MOST_BYTES).contains(&bytes.len());
     let has_words = has_length && bytes.len().is_multiple_of(WORD);
@@ -184,9 +184,26 @@ pub fn may_be_text(bytes: &[u8]) -> bool {
     bytes.iter().all(may_be)
 }
 
+/// Whether bytes may be the words of a circuit: a head of four, of which the ceiling is below
+/// 2^32, and records of eight, of which the first is a kind.
+pub fn may_be_words(bytes: &[u8]) -> bool {
+    let below = |word: &[u8], limit: u64| {
+        let word = word
+            .iter()
+            .rev()
+            .fold(0, |word, &byte| word << 8 | u64::from(byte));
+        word < limit
+    };
+    let Some((head, records)) = bytes.split_at_checked(4 * WORD) else {
+        return false;
+    };
+    let mut records = records.chunks(8 * WORD);
+    below(&head[3 * WORD..], 1 << 32)
+        && records.all(|record| record.len() == 8 * WORD && below(&record[..WORD], 6))
+}
+
 /// Whether binary data may be text with zero bytes in it, as text in UTF-32 is: of the others none
-/// is a control character, and they are more than a fifth. Of words they are fewer, or control
-/// characters.
+/// is a control character, and they are more than a fifth.
 pub fn may_hold_text(bytes: &[u8]) -> bool {
     let others: Vec<_> = bytes.iter().copied().filter(|&byte| byte != 0).collect();
     5 * others.len() > bytes.len() && may_be_text(&others)

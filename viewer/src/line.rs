@@ -254,12 +254,32 @@ impl<'a> Line<'a> {
     }
 
     /// The same line with another first word, if it has one.
-    pub fn beginning(&self, word: &'a str) -> Self {
+    fn beginning(&self, word: &'a str) -> Self {
         let mut line = self.clone();
         if let Some(first) = line.words.first_mut() {
             first.text = word;
         }
         line
+    }
+
+    /// Reads the line in a way that goes by its first word. A word that is one of these but for
+    /// capitals is told, and the line is read as what is meant, so that lines behind it are held
+    /// to that. A line that says nothing is passed over.
+    pub fn read(
+        &self,
+        words: &[&'a str],
+        mut read: impl FnMut(&Self) -> Result<(), Fault>,
+    ) -> Result<(), Fault> {
+        let Some(first) = self.words.first() else {
+            return Ok(());
+        };
+        match first.meant(words) {
+            Some(word) => {
+                let _ = read(&self.beginning(word));
+                Err(first.in_small_letters(word))
+            }
+            None => read(self),
+        }
     }
 
     /// The words with one space between.

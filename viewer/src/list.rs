@@ -11,7 +11,7 @@ use crate::angle;
 use crate::circuit::{pauli_of, text_of, EXPONENT};
 use crate::fields::Fields;
 use crate::line::{one_of, quoted, Fault, Faults, Line, Word};
-use crate::pauli;
+use crate::pauli::{self, Pauli};
 use crate::symbols;
 
 /// The words that begin a line.
@@ -80,18 +80,7 @@ fn told(width: u64) -> String {
 impl Reader {
     /// Reads a line and notes what is bad in it.
     fn line(&mut self, line: &Line<'_>) {
-        let Some(first) = line.words.first() else {
-            return;
-        };
-        let read = match first.meant(&FIRST_WORDS) {
-            Some(word) => {
-                // It is read as what is meant, so that lines behind it are held to that.
-                let _ = self.words(&line.beginning(word));
-                Err(first.in_small_letters(word))
-            }
-            None => self.words(line),
-        };
-        if let Err(fault) = read {
+        if let Err(fault) = line.read(&FIRST_WORDS, |line| self.words(line)) {
             self.faults.push(fault);
         }
     }
@@ -353,22 +342,18 @@ fn condition(sign: &SymbolicBool) -> String {
     }
 }
 
-/// The Pauli of an operation as a product.
-fn product(string: &PauliString) -> String {
-    let (x, z) = (string.x[0], string.z[0]);
-    let phase = string.phase_exponent() as u64;
-    pauli::product(pauli::Pauli { x, z, phase })
-}
-
-/// The Pauli of an operation as masks in hexadecimal, with the exponent of i.
-fn masks(string: &PauliString) -> String {
-    let (x, z) = (string.x[0], string.z[0]);
-    let phase = string.phase_exponent() as u64;
-    pauli::masks(pauli::Pauli { x, z, phase })
+/// The masks and the exponent of i of an operation's string.
+pub fn pauli_of_string(string: &PauliString) -> Pauli {
+    Pauli {
+        x: string.x[0],
+        z: string.z[0],
+        phase: string.phase_exponent() as u64,
+    }
 }
 
 /// An operation as a line of a file, its Pauli written in this way.
-fn line_of(operation: &PendingOperation, pauli: fn(&PauliString) -> String) -> String {
+fn line_of(operation: &PendingOperation, written: fn(Pauli) -> String) -> String {
+    let pauli = |string: &PauliString| written(pauli_of_string(string));
     match operation {
         PendingOperation::PauliRotation(rotation) => {
             let string = pauli(&rotation.pauli.pauli);
@@ -401,12 +386,12 @@ fn line_of(operation: &PendingOperation, pauli: fn(&PauliString) -> String) -> S
 
 /// An operation as a line of a file, its Pauli as a product.
 pub fn text(operation: &PendingOperation) -> String {
-    line_of(operation, product)
+    line_of(operation, pauli::product)
 }
 
 /// An operation as a line of a file, its Pauli as masks, so that it is short at every width.
 pub fn masked(operation: &PendingOperation) -> String {
-    line_of(operation, masks)
+    line_of(operation, pauli::masks)
 }
 
 #[cfg(test)]

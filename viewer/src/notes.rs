@@ -11,6 +11,7 @@ use crate::angle;
 use crate::choice::LEAST_MAX;
 use crate::circuit::{Circuit, Placed};
 use crate::figures;
+use crate::kernel_sense::are_of_one_angle;
 use crate::pauli::{self, Pauli};
 use crate::planning::selected_with;
 use crate::sense::MOST_COMPONENTS;
@@ -23,8 +24,6 @@ const MOST_OF_PAULI: usize = 24;
 const NEAR: f64 = 1.0 / (1_u64 << 40) as f64;
 /// The most degrees that an angle past 2 pi is taken for: ten turns.
 const MOST_DEGREES: f64 = 3600.0;
-/// How far the squares of a sine and a cosine that are of one angle may be from 1, 2^-50.
-const ROUNDED: f64 = 1.0 / (1_u64 << 50) as f64;
 
 /// What a record does and with which Pauli, if it is one that acts on the register.
 fn acting(record: &Record) -> Option<(&'static str, Pauli)> {
@@ -62,9 +61,8 @@ fn of_pauli(placed: &Placed) -> Option<String> {
 fn of_another_angle(rotation: &Rotation) -> Option<String> {
     let (sine, cosine) = (rotation.sine, rotation.cosine);
     let (own_sine, own_cosine) = rotation.angle.sin_cos();
-    let squares = sine * sine + cosine * cosine;
     let is_far = (sine - own_sine).abs() > NEAR || (cosine - own_cosine).abs() > NEAR;
-    ((squares - 1.0).abs() <= ROUNDED && is_far).then(|| {
+    (are_of_one_angle(sine, cosine) && is_far).then(|| {
         let own = angle::text(rotation.angle);
         let [sine, cosine, own_sine, own_cosine] =
             [sine, cosine, own_sine, own_cosine].map(angle::written);

@@ -7,9 +7,9 @@ use midvokt::{
 };
 
 use crate::figures;
-use crate::list::{Kept, List, Queued};
+use crate::list::{pauli_of_string, Kept, List, Queued};
 use crate::notes;
-use crate::pauli::{self, Pauli};
+use crate::pauli;
 use crate::places::{coefficient, is_expectation, Replay};
 
 /// The angles that a list may have lie from minus this to this: 2^20.
@@ -145,12 +145,7 @@ fn imaginary(operation: &PendingOperation) -> Option<String> {
     };
     let string = &operation.pauli()?.pauli;
     let phase = string.phase_exponent();
-    let product = pauli::product(Pauli {
-        x: string.x[0],
-        z: string.z[0],
-        phase: phase as u64,
-    });
-    let product = figures::cut(&product, MOST_OF_PAULI);
+    let product = figures::cut(&pauli::product(pauli_of_string(string)), MOST_OF_PAULI);
     let is_found = coefficient(string) % 2 == 1;
     is_found.then(|| {
         format!("the {noun}'s Pauli {product} is not Hermitian (phase {phase}; each Y counts 1)")

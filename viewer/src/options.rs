@@ -261,7 +261,7 @@ impl Reader {
                 let number = columns(&value(&name, given, words)?)?;
                 once(&mut self.columns, &name, number)?;
             }
-            _ if given.is_some() && name != "--" => {
+            _ if given.is_some() => {
                 return Err(format!(
                     "expected --svg=, --words=, --store=, --stored=, --optimize= or --columns=, \
                      found {}",

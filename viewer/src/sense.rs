@@ -1,7 +1,7 @@
 //! What a plan has to hold so that it can be followed and shown: rows in the order of the steps
 //! that name them, and sizes, masks and pivots that belong to their members. The library's own
-//! plans hold all of it; a stored plan that is damaged or comes from elsewhere may not, and then it
-//! is said in words.
+//! plans hold all of it; a stored plan that is damaged or comes from elsewhere may not, and then
+//! it is said in words.
 
 use midvokt::{
     ActiveComponentMeasurementStep, ActiveComponentStepKind as Kind, ActiveComponentStepRef,

@@ -4,9 +4,9 @@ use std::ffi::c_int;
 use std::{io, process, ptr, thread};
 
 /// The signals that end a process which may still do something before, as Linux numbers them:
-/// SIGHUP, SIGINT, SIGQUIT, SIGTERM, and for the limits of time and of a file's length SIGXCPU and
-/// SIGXFSZ.
-const ENDING: [c_int; 6] = [1, 2, 3, 15, 24, 25];
+/// SIGHUP, SIGINT, SIGQUIT, SIGUSR1, SIGUSR2, SIGALRM, SIGTERM, those of other timers, SIGVTALRM
+/// and SIGPROF, and for the limits of time and of a file's length SIGXCPU and SIGXFSZ.
+const ENDING: [c_int; 11] = [1, 2, 3, 10, 12, 14, 15, 24, 25, 26, 27];
 /// The action of a signal that is ignored.
 const IGNORED: usize = 1;
 /// What becomes of the signals of a set.

@@ -2,22 +2,23 @@
 //! dimensions. They are counted again by the steps and sources alone, and the plan's scalar fields
 //! are held to them.
 
-use midvokt::{ActiveComponentStepKind as Kind, StoredPlan};
+use midvokt::{ActiveComponentStepKind as Kind, StoredPlan, LARGEST_CEILING};
 
+use crate::choice::LEAST_MAX;
 use crate::figures;
 use crate::lives::Event;
 use crate::sense::{self, require};
 
 /// The most active coordinates that a rotation or a measurement is over.
-const WIDEST: usize = 62;
+const WIDEST: usize = LARGEST_CEILING as usize;
 
 /// The work of a promotion, and what a row's work is above its component's dimension.
 const PROMOTION: f64 = 34.0;
 const ROW: f64 = 32.0;
 
 /// The exponents that a dense peak can have, and the least where records are read.
-const DENSE_PEAKS: std::ops::RangeInclusive<u32> = 0..=61;
-const LEAST_READ: u32 = 8;
+const DENSE_PEAKS: std::ops::RangeInclusive<u32> = 0..=LARGEST_CEILING as u32 - 1;
+const LEAST_READ: u32 = LEAST_MAX as u32;
 
 /// The sums up to some record.
 pub struct Tally {

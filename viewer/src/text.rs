@@ -21,8 +21,8 @@ use crate::notes;
 use crate::planning::{self, View};
 use crate::works::Works;
 
-/// The most characters of a record's own line, and the most letters of a local Pauli, that the table
-/// shows.
+/// The most characters of a record's own line, and the most letters of a local Pauli, that the
+/// table shows.
 const MOST_OF_LINE: usize = 32;
 const MOST_OF_PAULI: usize = 24;
 /// The most characters of a refused record's line that are shown, and the most notes.
@@ -343,8 +343,8 @@ fn drawn(view: &View<'_>, style: &Style) -> String {
     }
 }
 
-/// Parts with a line between; behind them the checksum of a stored plan that is written besides and,
-/// where it is so, that the lanes are not the plan's.
+/// Parts with a line between; behind them the checksum of a stored plan that is written besides
+/// and, where it is so, that the lanes are not the plan's.
 fn joined(view: &View<'_>, mut parts: Vec<String>, columns: usize) -> String {
     parts.push(stored_besides(view, columns));
     if !view.agrees {
@@ -374,7 +374,8 @@ pub fn plan(view: &View<'_>, style: &Style) -> String {
     joined(view, parts, columns)
 }
 
-/// A plan in brief: whether it is selected and why, the works and the lanes.
+/// A plan in brief: whether it is selected and why, the notes or what is unchecked, the works and
+/// the lanes.
 pub fn brief(view: &View<'_>, style: &Style) -> String {
     let mut parts = opening(view, true, style.columns);
     parts.push(work(view, style.columns));
@@ -442,7 +443,7 @@ pub fn reason(circuit: &Circuit, refusal: &Refusal) -> String {
         Reason::InitialK => "initial is more than 512",
         Reason::Width => "a record that acts here needs 62 active coordinates or fewer",
         Reason::Phase => "phase is more than 3",
-        Reason::Floats => "the angle is not finite, or sin or cos is not in -1 to 1",
+        Reason::Floats => "sin or cos is not in -1 to 1",
         Reason::Promotion => "this promote would make the 513th coordinate",
         Reason::NothingActive => "no coordinate is active that could be measured",
         Reason::Pivot => "the pivot is not below the number of active coordinates",
@@ -568,7 +569,7 @@ mod tests {
                 "initial 1\nmax 8\nrotate x=1 phase=4 1",
                 "  phase is more than 3\n",
             ),
-            ("initial 1\nmax 8\nrotate X 1 sin=2", "or sin or cos is not"),
+            ("initial 1\nmax 8\nrotate X 1 sin=2", "  sin or cos is not"),
             (
                 "initial 1\nmax 8\nrotate X 0 sin=0 cos=0",
                 "  the squares of sin and cos sum to 0, and have to sum to 1, give or take 2^-50\n",

@@ -21,8 +21,8 @@ pub struct Head {
     /// The number of active coordinates at the start.
     pub initial_k: u64,
     /// The greatest number of active coordinates, which gives the dense peak; it is not held to
-    /// the records. Below 8 no record is read and the plan is empty: give 8, as [`Head::new`] does,
-    /// to have the rows of a small circuit. The ceiling or more is refused.
+    /// the records. Below 8 no record is read and the plan is empty: give 8, as [`Head::new`]
+    /// does, to have the rows of a small circuit. The ceiling or more is refused.
     pub max_k: u64,
     /// The number of expectation values. While it is 0, expectations
     /// ([`Record::expectation`](crate::Record::expectation)) are passed over. Where it is more, no

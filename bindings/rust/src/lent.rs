@@ -84,8 +84,8 @@ pub struct Sections<'a> {
 
 impl<'a> From<[&'a mut [u64]; 6]> for Sections<'a> {
     /// Six slices in this order: steps, merges, sizes, rotations, promotions, measurements. They
-    /// have to be of variables that live as long: a `&mut [0; 2]` written in the call ends with its
-    /// statement, while one written in the struct of a `let` does not.
+    /// have to be of variables that live as long: a `&mut [0; 2]` written in the call ends with
+    /// its statement, while one written in the struct of a `let` does not.
     fn from(words: [&'a mut [u64]; 6]) -> Self {
         let [steps, merges, sizes, rotations, promotions, measurements] = words;
         Self {
