@@ -11,10 +11,9 @@ const BELOW: f64 = 14.0;
 
 /// What a lane, its members and the words behind it are.
 const LANES: &str = "A lane is a component. Its members are the coordinates that it holds: with \
-                     more of them it is thicker and darker.";
-const WORDS: &str =
-    "The words behind a lane tell how it ends: 'joins 4 at 9' has the lane that it \
-                     joins, and the record; 'lives: 2 3' its members then.";
+    more of them it is thicker and darker.";
+const WORDS: &str = "The words behind a lane tell how it ends: 'joins 4 at 9' has the lane that \
+    it joins, and the record; 'lives: 2 3' its members then.";
 const COLUMNS: &str = "Records that concern no component have no column.";
 const SIZES: &str = "A number below a mark: the members after the join.";
 const PARTS: [&str; 2] = [
