@@ -1,7 +1,7 @@
 -- 01, "Reference circuits": the starred ones, those with initial 61 and 62, and further ones, each with the answer of the Rust as `tests/reference/run` prints it.
 -- An answer is a refusal's number and index; or the eight scalar fields, works as bits, with the five words of the whole works, and then the used words of the
 -- seven outputs.
-use Rattle.std.specs.Prelude.{ℕ, ◌+◌, ◌*◌, ◌/◌, Bool, true, ◌&&◌, cond, eqb, List, [], ◌∷◌, length}
+use Rattle.std.specs.Prelude.{ℕ, ◌+◌, ◌*◌, ◌/◌, Bool, true, ◌&&◌, List, [], ◌∷◌, length, if◌then◌else◌, ◌==◌}
 use Rattle.std.specs.Float.Ieee.{to_bits}
 use Rattle.records.specs.Record.{kind, sine, cosine}
 use Rattle.records.specs.Pass.{sums_to_one}
@@ -43,7 +43,7 @@ answer_of c =
 -- whether the sine and cosine of each rotation pass (02, CR 5)
 abbrev pub pairs_pass : List (List ℕ) → Bool
 pairs_pass [] = true
-pairs_pass (r ∷ rs) = cond (eqb (kind r) 0) (sums_to_one (sine r) (cosine r)) true && pairs_pass rs
+pairs_pass (r ∷ rs) = (if (kind r == 0) then sums_to_one (sine r) (cosine r) else true) && pairs_pass rs
 
 -- a circuit whose groups come in another order by number than by first member: component 0's own first member was measured away, and component 1 was emptied
 abbrev pub later_first : Circuit

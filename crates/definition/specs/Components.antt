@@ -1,6 +1,6 @@
 -- Components of active coordinates, as ordered members by component number: which are touched, joined into which, at what cost, and what the local bits are.
 -- Written from 01, section 4. A component that was joined away or emptied has no members.
-use Rattle.std.specs.Prelude.{ℕ, zero, suc, ◌+◌, ◌-◌, ◌*◌, ◌/◌, ◌%◌, ◌^◌, min, List, [], ◌∷◌, ◌++◌, map, false, cond, ltb, eqb, length, get_or, set, take, pos, Float}
+use Rattle.std.specs.Prelude.{ℕ, zero, suc, ◌+◌, ◌-◌, ◌*◌, ◌/◌, ◌%◌, ◌^◌, min, List, [], ◌∷◌, ◌++◌, map, false, length, get_or, set, take, pos, Float, if◌then◌else◌, nat_lt, ◌==◌}
 use Rattle.std.specs.Float.{fin, binary64}
 use Rattle.std.specs.Float.Ieee.{add, mul}
 use Rattle.kernels.specs.Bits.{bit_at, exp2}
@@ -15,7 +15,7 @@ size_of cs c = length (members_of cs c)
 -- "the active positions ... set in x or z": the coordinates at these positions. Bits at or above the width meet no position
 abbrev pub support : ℕ → ℕ → List ℕ → List ℕ
 support x z [] = []
-support x z (c ∷ order) = let rest = support (x / 2) (z / 2) order in cond (eqb (x % 2 + z % 2) 0) rest (c ∷ rest)
+support x z (c ∷ order) = let rest = support (x / 2) (z / 2) order in (if ((x % 2 + z % 2) == 0) then rest else c ∷ rest)
 
 -- "if none, the component of the first active coordinate"
 abbrev pub or_first : List ℕ → List ℕ → List ℕ
@@ -29,14 +29,14 @@ reached x z order = or_first order (support x z order)
 -- "Touched: components of" these coordinates, ascending; n is the number of the first component listed
 abbrev pub meeting : ℕ → List ℕ → List (List ℕ) → List ℕ
 meeting n s [] = []
-meeting n s (m ∷ cs) = let rest = meeting (suc n) s cs in cond (meet s m) (n ∷ rest) rest
+meeting n s (m ∷ cs) = let rest = meeting (suc n) s cs in (if meet s m then n ∷ rest else rest)
 
 unfoldable pub touched : ℕ → ℕ → List ℕ → List (List ℕ) → List ℕ
 touched x z order cs = meeting 0 (reached x z order) cs
 
 -- "the largest touched, smallest number on a tie": a later one has to be larger
 abbrev pub larger : List (List ℕ) → ℕ → ℕ → ℕ
-larger cs best c = cond (ltb (size_of cs best) (size_of cs c)) c best
+larger cs best c = if nat_lt (size_of cs best) (size_of cs c) then c else best
 
 abbrev pub largest : List (List ℕ) → ℕ → List ℕ → ℕ
 largest cs best [] = best

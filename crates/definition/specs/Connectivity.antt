@@ -1,6 +1,6 @@
 -- Demand 3, 01 section 5: what is claimed of the components of every accepted plan. The active order, supports, links and live dimensions are read off the
 -- instructions alone; the replayed components off the finished plan's words alone. Neither mentions how the plan was made.
-use Rattle.std.specs.Prelude.{ℕ, zero, suc, ◌+◌, ◌-◌, ◌*◌, ◌^◌, ◌≤◌, ◌<◌, min, max, ◌≡◌, ◌⊎◌, ◌↔◌, Bool, cond, not, ◌||◌, ltb, eqb, length, get_or, take, drop}
+use Rattle.std.specs.Prelude.{ℕ, zero, suc, ◌+◌, ◌-◌, ◌*◌, ◌^◌, ◌≤◌, ◌<◌, min, max, ◌≡◌, ◌⊎◌, ◌↔◌, Bool, not, ◌||◌, length, get_or, take, drop, if◌then◌else◌, nat_lt, ◌==◌}
 use mathlib.Core.List.{List, [], ◌∷◌, ◌++◌, map, Memᴰ}
 use Rattle.kernels.specs.Bits.{bit_at}
 use Rattle.records.specs.declared.Instruction.{Instruction}
@@ -14,7 +14,7 @@ use Rattle.definition.specs.Plan.{Plan}
 -- how often a stands in the list
 abbrev pub occurrences : ℕ → List ℕ → ℕ
 occurrences a [] = zero
-occurrences a (b ∷ bs) = cond (eqb a b) 1 0 + occurrences a bs
+occurrences a (b ∷ bs) = (if (a == b) then 1 else 0) + occurrences a bs
 
 abbrev pub Member : ℕ → List ℕ → Type 0
 Member a xs = 0 < occurrences a xs
@@ -28,7 +28,7 @@ NoRepeats xs = (a : ℕ) → occurrences a xs ≤ 1
 -- the entries that pass a test, in order
 abbrev pub keep : (ℕ → Bool) → List ℕ → List ℕ
 keep p [] = []
-keep p (a ∷ xs) = let rest = keep p xs in cond (p a) (a ∷ rest) rest
+keep p (a ∷ xs) = let rest = keep p xs in (if p a then a ∷ rest else rest)
 
 abbrev pub greatest : List ℕ → ℕ
 greatest [] = zero
@@ -48,7 +48,7 @@ active_start k = record { order = numbers_from 0 k; next = k; links = [] }
 
 -- "the entries, before the record, at positions below the width with a set x or z bit"
 unfoldable pub support_of : ℕ → ℕ → ℕ → List ℕ → List ℕ
-support_of width x z order = map (λ p. get_or order p 0) (keep (λ p. not (eqb (bit_at x p) 0) || not (eqb (bit_at z p) 0)) (numbers_from 0 width))
+support_of width x z order = map (λ p. get_or order p 0) (keep (λ p. not (bit_at x p == 0) || not (bit_at z p == 0)) (numbers_from 0 width))
 
 -- "A support, which only a rotation or flag-0 measurement has": the order as before the record, and its support among the links
 unfoldable pub with_links : ActiveOrder → Instruction → ActiveOrder
@@ -90,7 +90,7 @@ pub data Linked (links : List (List ℕ)) : ℕ → ℕ → Type 0 where
 -- a number for each coordinate such that linked ones have the same (`Classes.class_linked`): a support gives all its classes that of its first entry
 abbrev pub merged : (ℕ → ℕ) → List ℕ → ℕ → ℕ
 merged f [] c = f c
-merged f (a ∷ s) c = cond (is_in (f c) (map f (a ∷ s))) (f a) (f c)
+merged f (a ∷ s) c = if is_in (f c) (map f (a ∷ s)) then f a else f c
 
 abbrev pub class_from : (ℕ → ℕ) → List (List ℕ) → ℕ → ℕ
 class_from f [] = f
@@ -102,7 +102,7 @@ class_of links = class_from (λ c. c) links
 -- "Chains gather the roll's entries into sets": the entries of each class, in order; a class with no active entry gives the empty list
 unfoldable pub sets_of : ActiveOrder → List (List ℕ)
 unfolding class_of
-sets_of r = map (λ v. keep (λ a. eqb (class_of r.links a) v) r.order) (numbers_from 0 r.next)
+sets_of r = map (λ v. keep (λ a. (class_of r.links a == v)) r.order) (numbers_from 0 r.next)
 
 -- "The live dimension is the sum of 2^(entries) over these sets"
 unfoldable pub live_at : ActiveOrder → ℕ
@@ -140,7 +140,7 @@ Replayed = ℕ → List ℕ
 
 -- "each bin i below initial_components begins as [i]"
 abbrev pub replay_start : ℕ → Replayed
-replay_start k i = cond (ltb i k) (i ∷ []) []
+replay_start k i = if nat_lt i k then i ∷ [] else []
 
 abbrev pub joined_members : Replayed → List ℕ → List ℕ
 joined_members b [] = []
@@ -149,7 +149,7 @@ joined_members b (s ∷ ss) = b s ++ joined_members b ss
 -- "a row joins its listed bins into the first, in order, and empties the others"
 abbrev pub replay_join : List ℕ → Replayed → Replayed
 replay_join [] b i = b i
-replay_join (first ∷ others) b i = cond (eqb i first) (joined_members b (first ∷ others)) (cond (is_in i others) [] (b i))
+replay_join (first ∷ others) b i = if (i == first) then joined_members b (first ∷ others) else (if is_in i others then [] else b i)
 
 -- step m's kind and payload; the row that a payload names, in rows of so many words; the part of the merge list that a row names
 abbrev pub kind_at : Plan → ℕ → ℕ
@@ -173,19 +173,18 @@ listed_by p row = take (get_or row 2 0) (drop (get_or row 1 0) p.merges)
 -- just after the join of record m, by the kind of its step: 2 rotation, 4 measurement
 abbrev pub joined_by : ℕ → Plan → ℕ → Replayed → Replayed
 joined_by kind p m b =
-    cond (eqb kind 2) (replay_join (listed_by p (rotation_at p m)) b) (cond (eqb kind 4) (replay_join (listed_by p (measurement_at p m)) b) b)
+    if (kind == 2) then replay_join (listed_by p (rotation_at p m)) b else (if (kind == 4) then replay_join (listed_by p (measurement_at p m)) b else b)
 
 -- "a promotion opens the bin that its row names, holding that number; a measurement then drops the member at its local pivot"
 abbrev pub replay_promotion : ℕ → Replayed → Replayed
-replay_promotion c b i = cond (eqb i c) (c ∷ []) (b i)
+replay_promotion c b i = if (i == c) then c ∷ [] else b i
 
 abbrev pub drop_member : ℕ → ℕ → Replayed → Replayed
-drop_member c pivot b i = cond (eqb i c) (remove_at pivot (b i)) (b i)
+drop_member c pivot b i = if (i == c) then remove_at pivot (b i) else b i
 
 abbrev pub changed_by : ℕ → Plan → ℕ → Replayed → Replayed
 changed_by kind p m b =
-    cond (eqb kind 3) (replay_promotion (get_or p.promotions (payload_at p m) 0) b)
-    (cond (eqb kind 4) (drop_member (get_or (measurement_at p m) 0 0) (get_or (measurement_at p m) 11 0) b) b)
+    if (kind == 3) then replay_promotion (get_or p.promotions (payload_at p m) 0) b else (if (kind == 4) then drop_member (get_or (measurement_at p m) 0 0) (get_or (measurement_at p m) 11 0) b else b)
 
 unfoldable pub replay_joined : Plan → ℕ → Replayed → Replayed
 replay_joined p m b = joined_by (kind_at p m) p m b

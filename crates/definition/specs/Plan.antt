@@ -1,6 +1,6 @@
 -- The plan of an input: refusals 1 to 4, the record pass, the walk, the choice and the outputs. Written from 01, sections 4 and 6, and "Where planning stops"; the
 -- whole works are 02's, CR 1, and the ceiling is 02's, CR 4.
-use Rattle.std.specs.Prelude.{ℕ, suc, ◌+◌, ◌-◌, ◌*◌, ◌/◌, ◌%◌, List, [], ◌∷◌, ◌++◌, Bool, true, false, cond, not, ◌&&◌, ◌||◌, leb, ltb, eqb, length, replicate, pos, negsuc, Float, Option, Some, None}
+use Rattle.std.specs.Prelude.{ℕ, suc, ◌+◌, ◌-◌, ◌*◌, ◌/◌, ◌%◌, List, [], ◌∷◌, ◌++◌, Bool, true, false, if◌then◌else◌, not, ◌&&◌, ◌||◌, nat_le, nat_lt, ◌==◌, length, replicate, pos, negsuc, Float, Option, Some, None}
 use Rattle.std.specs.Float.{fin, binary64}
 use Rattle.std.specs.Float.Ieee.{round, mul, sub, le, of_int}
 use Rattle.kernels.specs.Bits.{dimension}
@@ -73,14 +73,14 @@ allocation_fits allocated dense_peak = le (of_int binary64 (pos allocated)) (mul
 unfoldable pub chosen : ℕ → Float → Float → ℕ → ℕ → Bool
 unfolding allocation_fits le mul sub round
 chosen quantum dense component allocated dense_peak =
-    leb 4 quantum
+    nat_le 4 quantum
     && (le (mul binary64 ratio_f component) dense
     && (le (fin false 1 (pos 13)) (sub binary64 dense component)
     && allocation_fits allocated dense_peak))
 
 -- "With max_k < 8 or nexpvals not 0 planning accepts right after condition 1"
 abbrev pub unread : Head → Bool
-unread h = ltb h.max_k 8 || not (eqb h.nexpvals 0)
+unread h = nat_lt h.max_k 8 || not (h.nexpvals == 0)
 
 -- ---- the plan of a finished walk
 
@@ -124,13 +124,13 @@ unread_plan initial dense_peak = plan_from initial dense_peak (start 0)
 
 -- 2: "record words no multiple of 8, or over 8,192"
 abbrev pub words_refused : List ℕ → Bool
-words_refused ws = not (eqb (length ws % 8) 0) || ltb 8192 (length ws)
+words_refused ws = not (length ws % 8 == 0) || nat_lt 8192 (length ws)
 
 -- 3: "with n records, steps < 2n, merges < n+512, sizes < 512, rotations < 21n, promotions < n, measurements < 19n or groups < 1,024 words"
 abbrev pub buffers_refused : ℕ → Lengths → Bool
 buffers_refused n l =
-    ltb l.steps (2 * n) || ltb l.merges (n + 512) || ltb l.sizes 512 || ltb l.rotations (21 * n)
-    || ltb l.promotions n || ltb l.measurements (19 * n) || ltb l.groups 1024
+    nat_lt l.steps (2 * n) || nat_lt l.merges (n + 512) || nat_lt l.sizes 512 || nat_lt l.rotations (21 * n)
+    || nat_lt l.promotions n || nat_lt l.measurements (19 * n) || nat_lt l.groups 1024
 
 abbrev pub after_walk : ℕ → ℕ → Walked → Result
 after_walk initial dense_peak (finished w) = planned (plan_from initial dense_peak w)
@@ -142,8 +142,7 @@ after_pass limit initial dense_peak ws Passed = after_walk initial dense_peak (w
 after_pass limit initial dense_peak ws (Refused number index) = refused_at number index
 
 abbrev pub refuse_all : Bool → ℕ → Result → Result
-refuse_all true number rest = refused_at number 0
-refuse_all false number rest = rest
+refuse_all test number rest = if test then refused_at number 0 else rest
 
 -- 02, CR 4: "The record pass keeps its width of 62": it reads no ceiling
 abbrev pub pass_of : Head → List ℕ → Checked
@@ -152,10 +151,10 @@ pass_of h ws = record_pass h.initial_k ws
 unfoldable pub plan_read : Head → List ℕ → Lengths → ℕ → Result
 unfolding walk_from start plan_from record_pass instructions_of
 plan_read h ws l dense_peak =
-    refuse_all (words_refused ws) 2
-    (refuse_all (buffers_refused (length ws / 8) l) 3
-    (refuse_all (ltb 512 h.initial_k) 4
-    (after_pass h.ceiling h.initial_k dense_peak ws (pass_of h ws))))
+    if words_refused ws then refused_at 2 0
+    else (if buffers_refused (length ws / 8) l then refused_at 3 0
+    else (if nat_lt 512 h.initial_k then refused_at 4 0
+    else after_pass h.ceiling h.initial_k dense_peak ws (pass_of h ws)))
 
 -- "2^max_k"; none from the ceiling on
 abbrev pub max_dimension : Head → Option ℕ
@@ -164,11 +163,11 @@ max_dimension h = dimension h.ceiling h.max_k
 -- 1: "max_k >= 62"; 02, CR 4: "Condition 1 reads the ceiling where it reads 62"
 abbrev pub for_dense_peak : Head → List ℕ → Lengths → Option ℕ → Result
 for_dense_peak h ws l None = refused_at 1 0
-for_dense_peak h ws l (Some dense_peak) = cond (unread h) (planned (unread_plan h.initial_k dense_peak)) (plan_read h ws l dense_peak)
+for_dense_peak h ws l (Some dense_peak) = if unread h then planned (unread_plan h.initial_k dense_peak) else plan_read h ws l dense_peak
 
 -- 24: 02, CR 4: "A ceiling outside 1 to 62"
 abbrev pub ceiling_refused : Head → Bool
-ceiling_refused h = ltb h.ceiling 1 || ltb 62 h.ceiling
+ceiling_refused h = nat_lt h.ceiling 1 || nat_lt 62 h.ceiling
 
 -- What planning gives for a head, the record words and the lengths of the lent buffers. 02, CR 4: "gives 24, before 1". The head's ceiling is where a width has no
 -- dimension any more. It is asked for max_k and for the members of each join, and so for each kernel. Start and promotions ask for none: they make components of
@@ -176,4 +175,4 @@ ceiling_refused h = ltb h.ceiling 1 || ltb 62 h.ceiling
 -- or such a start made, so each has its dimension (`Laws.HasDimensions`)
 unfoldable pub plan_of : Head → List ℕ → Lengths → Result
 unfolding plan_read unread_plan dimension
-plan_of h ws l = refuse_all (ceiling_refused h) 24 (for_dense_peak h ws l (max_dimension h))
+plan_of h ws l = if ceiling_refused h then refused_at 24 0 else for_dense_peak h ws l (max_dimension h)

@@ -1,6 +1,6 @@
 -- The walk over the instructions, one step for each, with refusals 11 to 20. Written from 01, section 4, and its table "Where planning stops"; the whole works
 -- that go along with it are 02's, CR 1.
-use Rattle.std.specs.Prelude.{ℕ, suc, ◌+◌, ◌*◌, ◌^◌, max, List, [], ◌∷◌, ◌++◌, map, Bool, true, false, cond, not, ltb, eqb, length, get_or, set, replicate, pos, Float, Option, Some, None}
+use Rattle.std.specs.Prelude.{ℕ, suc, ◌+◌, ◌*◌, ◌^◌, max, List, [], ◌∷◌, ◌++◌, map, Bool, true, false, if◌then◌else◌, not, nat_lt, ◌==◌, length, get_or, set, replicate, pos, Float, Option, Some, None}
 use Rattle.std.specs.Float.{fin, binary64}
 use Rattle.std.specs.Float.Ieee.{add, mul, to_bits}
 use Rattle.kernels.specs.Bits.{odd_ones, highest_bit, exp2, dimension}
@@ -56,7 +56,7 @@ start k =
 -- ---- rows: "Flags are 0 or 1, floats stand as their bits"
 
 abbrev pub flag_word : Bool → ℕ
-flag_word b = cond b 1 0
+flag_word b = if b then 1 else 0
 
 abbrev pub bits_word : Float → ℕ
 bits_word x = to_bits binary64 x
@@ -123,8 +123,7 @@ local_action x z phase w j =
 
 -- "a refusal" where the test holds, and else the rest
 abbrev pub refuse : Bool → ℕ → Answer Walk → Answer Walk
-refuse true number rest = refused number
-refuse false number rest = rest
+refuse test number rest = if test then refused number else rest
 
 abbrev pub when_given : {A : Type 0} → Answer A → (A → Answer Walk) → Answer Walk
 when_given (given a) f = f a
@@ -211,7 +210,7 @@ measurement_step w j pivot k =
     let left = remove_at k.pivot j.members in
     let components = set j.components j.component left in
     let o = w.written in
-    let row = measurement_row j.component (length o.merges) (length j.sources) k (eqb (length left) 0) in record {
+    let row = measurement_row j.component (length o.merges) (length j.sources) k (length left == 0) in record {
       order = remove_at pivot w.order;
       components = components;
       longest = j.longest;
@@ -229,10 +228,10 @@ unfoldable pub rotate : ℕ → Walk → ℕ → ℕ → ℕ → ℕ → Float �
 unfolding join_of rotation_step ignored_step dimension odd_ones highest_bit
 rotate limit w width x z phase angle sine cosine =
     let j = join_of x z w in
-    refuse (not (eqb width (length w.order))) 11
-    (cond (eqb (length w.order) 0) (given (ignored_step w))
-    (refuse (too_large limit j) 14
-    (when_given (rotation limit (local_action x z phase w j) phase angle sine cosine) λ k. given (rotation_step w j k))))
+    if not (width == length w.order) then refused 11
+    else (if length w.order == 0 then given (ignored_step w)
+    else (if too_large limit j then refused 14
+    else when_given (rotation limit (local_action x z phase w j) phase angle sine cosine) (λ k. given (rotation_step w j k))))
 
 -- 12, 13, 14, then the pivot's 15 to 20, or the measurement
 unfoldable pub measure : ℕ → Walk → ℕ → ℕ → ℕ → ℕ → ℕ → Answer Walk
@@ -240,12 +239,12 @@ unfolding join_of measurement_step dimension odd_ones
 measure limit w width x z phase pivot =
     let j = join_of x z w in
     let coordinate = get_or w.order pivot 0 in
-    refuse (not (eqb width (length w.order))) 12
-    (refuse (eqb (length w.order) 0) 13
-    (refuse (too_large limit j) 14
-    (refuse (not (ltb pivot (length w.order))) 15
-    (refuse (not (is_in coordinate j.members)) 16
-    (when_given (measurement limit (local_action x z phase w j) phase (place_of coordinate j.members)) λ k. given (measurement_step w j pivot k))))))
+    if not (width == length w.order) then refused 12
+    else (if length w.order == 0 then refused 13
+    else (if too_large limit j then refused 14
+    else (if not (nat_lt pivot (length w.order)) then refused 15
+    else (if not (is_in coordinate j.members) then refused 16
+    else when_given (measurement limit (local_action x z phase w j) phase (place_of coordinate j.members)) (λ k. given (measurement_step w j pivot k))))))
 
 -- one instruction. "Flag 1: step None, nothing else"
 unfoldable pub step : ℕ → Walk → Instruction → Answer Walk

@@ -1,5 +1,5 @@
 -- The works as whole numbers, and what the result says of them. Written from 02, CR 1, with the costs of 01, section 4. No float stands here.
-use Rattle.std.specs.Prelude.{ℕ, ◌+◌, ◌*◌, ◌/◌, ◌%◌, ◌^◌, max, List, [], ◌∷◌, cond, ltb, eqb, length}
+use Rattle.std.specs.Prelude.{ℕ, ◌+◌, ◌*◌, ◌/◌, ◌%◌, ◌^◌, max, List, [], ◌∷◌, length, if◌then◌else◌, nat_lt, ◌==◌}
 use Rattle.definition.specs.Components.{size_of}
 
 -- both works so far, and the widest active width so far
@@ -36,11 +36,11 @@ pub data WholeWorks : Type 0 where
   with_quotient : (dense component quotient remainder : ℕ) → WholeWorks
 
 abbrev pub quotient_of : ℕ → ℕ → WholeWorks
-quotient_of dense component = cond (eqb component 0) (without_quotient dense) (with_quotient dense component (dense / component) (dense % component))
+quotient_of dense component = if (component == 0) then without_quotient dense else with_quotient dense component (dense / component) (dense % component)
 
 -- "Where the active width ... never passes 38"
 unfoldable pub whole_works_of : WholeSums → WholeWorks
-whole_works_of s = cond (ltb 38 s.widest) too_wide (quotient_of s.dense s.component)
+whole_works_of s = if nat_lt 38 s.widest then too_wide else quotient_of s.dense s.component
 
 -- the mark 0, 1 or 2, dense, component, quotient and remainder, as words: 0 for what a mark does not give
 abbrev pub whole_words : WholeWorks → List ℕ

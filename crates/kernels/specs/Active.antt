@@ -1,5 +1,5 @@
 -- What the contracts of the module `active` say: phases, actions and the two kernels. Written from 01, section 3.
-use Rattle.std.specs.Prelude.{ℕ, zero, suc, ◌/◌, ◌%◌, Bool, true, false, cond, Option, Some, None, not, ◌&&◌, eqb, pos, Float}
+use Rattle.std.specs.Prelude.{ℕ, zero, suc, ◌/◌, ◌%◌, Bool, true, false, Option, Some, None, not, ◌&&◌, pos, Float, if◌then◌else◌, ◌==◌}
 use Rattle.std.specs.Int.Bits.{bit_and}
 use Rattle.std.specs.Float.{fin, binary64}
 use Rattle.std.specs.Float.Ieee.{add, sub, mul, neg, of_bits}
@@ -48,7 +48,7 @@ action w x z p = record {
 
 -- 01, section 3: an exponent of 1 or 3, modulo 4
 abbrev pub imaginary : ℕ → Bool
-imaginary p = eqb (p % 2) 1
+imaginary p = ((p % 2) == 1)
 
 -- 01, section 3: with even phase (a, b) and sine s the coefficient is (0·a - (-s)·b, 0·b + (-s)·a), each operation rounded
 abbrev pub rotation_coefficient : Complex64 → Float → Complex64
@@ -59,18 +59,18 @@ rotation_coefficient e s =
 
 -- 01, section 3: z not 0, overlap of x and z odd, exponent 1 or 3
 abbrev pub pair_flip : ActivePauliAction → ℕ → Bool
-pair_flip a p = not (eqb a.zmask 0) && (a.xz_overlap_odd && imaginary p)
+pair_flip a p = not (a.zmask == 0) && (a.xz_overlap_odd && imaginary p)
 
 -- 01, section 3: the rotation kernel of an action whose dimension is n
 abbrev pub rotation_kernel : ℕ → ActivePauliAction → ℕ → Float → Float → Float → PrecomputedActivePauliRotationKernel
 rotation_kernel n a p angle sine cosine =
-    let diagonal = eqb a.xmask 0 in record {
+    let diagonal = (a.xmask == 0) in record {
       action = a;
       is_diagonal = diagonal;
-      uniform_imag_pairs = not diagonal && eqb a.zmask 0;
+      uniform_imag_pairs = not diagonal && (a.zmask == 0);
       real_pair_flip = not diagonal && pair_flip a p;
-      pair_bit = cond diagonal 0 (highest_bit a.xmask);
-      pair_count = cond diagonal 0 (n / 2);
+      pair_bit = (if diagonal then 0 else highest_bit a.xmask);
+      pair_count = (if diagonal then 0 else n / 2);
       kernel_angle = angle;
       cos_kernel_angle = cosine;
       sin_kernel_angle = sine;
@@ -107,18 +107,15 @@ measurement_kernel n a pivot diagonal bit rest = record {
 
 -- 01, section 3 and refusal 17: x is not 0
 abbrev pub nondiagonal : ℕ → ActivePauliAction → ℕ → Answer PrecomputedActivePauliMeasurementKernel
-nondiagonal n a pivot = cond (eqb (bit_at a.xmask pivot) 0) (refused 17) (given (measurement_kernel n a pivot false 0 0))
+nondiagonal n a pivot = if (bit_at a.xmask pivot == 0) then refused 17 else given (measurement_kernel n a pivot false 0 0)
 
 -- 01, section 3 and refusals 18, 19: x is 0, z is not. The phase bit is 1 for exponent 2
 abbrev pub diagonal : ℕ → ActivePauliAction → ℕ → ℕ → Answer PrecomputedActivePauliMeasurementKernel
 diagonal n a p pivot =
-    cond (eqb (bit_at a.zmask pivot) 0) (refused 18)
-    (cond (imaginary p) (refused 19)
-    (given (measurement_kernel n a pivot true (p % 4 / 2) (without_bit a.zmask pivot))))
+    if (bit_at a.zmask pivot == 0) then refused 18 else (if imaginary p then refused 19 else given (measurement_kernel n a pivot true (p % 4 / 2) (without_bit a.zmask pivot)))
 
 -- the measurement kernel, or 14, or the first of 17 to 20
 abbrev pub measurement : ℕ → ActivePauliAction → ℕ → ℕ → Answer PrecomputedActivePauliMeasurementKernel
 measurement limit a p pivot =
     of_dimension (dimension limit a.nqubits) λ n.
-    cond (not (eqb a.xmask 0)) (nondiagonal n a pivot)
-    (cond (not (eqb a.zmask 0)) (diagonal n a p pivot) (refused 20))
+    (if not (a.xmask == 0) then nondiagonal n a pivot else (if not (a.zmask == 0) then diagonal n a p pivot else refused 20))

@@ -1,5 +1,5 @@
 -- What the contracts of the crate `lent` say: refusals 24 and 1 to 4, and what the seven buffers hold once the words behind the used ones, or all, are zeroed.
-use Rattle.std.specs.Prelude.{◌≡◌, ℕ, ◌-◌, ◌*◌, ◌%◌, ◌^◌, ◌<◌, Bool, cond, not, ◌||◌, List, ◌++◌, length, take, replicate, ◌==◌, nat_lt, Option, Some, None}
+use Rattle.std.specs.Prelude.{◌≡◌, ℕ, ◌-◌, ◌*◌, ◌%◌, ◌^◌, ◌<◌, Bool, not, ◌||◌, List, ◌++◌, length, take, replicate, ◌==◌, nat_lt, Option, Some, None, if◌then◌else◌}
 use Rattle.refusals.specs.Answer.{Answer, given, refused}
 use Rattle.records.specs.declared.Head.{Head}
 use Rattle.definition.specs.Plan.{Result, held_after, max_dimension, ceiling_refused}
@@ -13,11 +13,11 @@ peak_answer (Some dense_peak) = given dense_peak
 
 -- 02, CR 4: "A ceiling outside 1 to 62 gives 24, before 1"
 abbrev pub head_answer : Head → Answer ℕ
-head_answer h = cond (ceiling_refused h) (refused 24) (peak_answer (max_dimension h))
+head_answer h = if ceiling_refused h then refused 24 else peak_answer (max_dimension h)
 
 -- refusals 2 to 4, or 0: "2: record words no multiple of 8, or over 8,192"; 3 where a buffer is short; "4: initial_k > 512"
 abbrev pub lent_number : ℕ → ℕ → Bool → ℕ
-lent_number initial words short = cond (not (words % 8 == 0) || nat_lt 8192 words) 2 (cond short 3 (cond (nat_lt 512 initial) 4 0))
+lent_number initial words short = if not (words % 8 == 0) || nat_lt 8192 words then 2 else (if short then 3 else (if nat_lt 512 initial then 4 else 0))
 
 -- the seven buffers hold what a result says, whatever they held before: a plan's words and zeros behind them, or zeros alone
 pub record Held (result : Result) (before after : Buffers) : Type 0 where

@@ -1,5 +1,5 @@
 -- What the contract of `optimize_pending_operations` says: its answer, and every word of the lent list and map, for what optimizing gives.
-use Rattle.std.specs.Prelude.{ℕ, ◌-◌, ◌/◌, ◌%◌, ◌<◌, ◌≤◌, ◌≡◌, List, [], ◌∷◌, ◌++◌, true, false, ltb, length, replicate, Result, Ok, Err}
+use Rattle.std.specs.Prelude.{ℕ, ◌-◌, ◌/◌, ◌%◌, ◌<◌, ◌≤◌, ◌≡◌, List, [], ◌∷◌, ◌++◌, true, false, length, replicate, Result, Ok, Err, nat_lt}
 use Rattle.std.specs.List.{list_any, list_all, concat}
 use Rattle.refusals.specs.Numbers as Reasons
 use Rattle.refusals.specs.declared.Refusal.{Refusal}
@@ -19,7 +19,7 @@ verdict_of (Err refusal) words prefixes = refused (Reasons.number_of refusal.rea
 -- for a list that is optimized in segments no prefix is beyond it
 abbrev pub PrefixesInside : Verdict → (n : ℕ) → (prefixes : List ℕ) → Type 0
 PrefixesInside AsItIs n prefixes = Unit
-PrefixesInside InSegments n prefixes = list_any (ltb n) prefixes ≡ false
+PrefixesInside InSegments n prefixes = list_any (nat_lt n) prefixes ≡ false
 
 -- what is known of a call with a verdict
 pub record Sound (width : ℕ) (words prefixes : List ℕ) (optimized_len map_len : ℕ) (verdict : Verdict) : Type 0 where

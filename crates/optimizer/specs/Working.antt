@@ -1,5 +1,5 @@
 -- How the code works in the lent list: what cancelled is marked and stays where it is until all is compacted, and operations have no places.
-use Rattle.std.specs.Prelude.{ℕ, zero, suc, ◌+◌, ◌-◌, ◌*◌, ◌<◌, ◌≤◌, ◌≡◌, List, [], ◌∷◌, ◌++◌, reverse, map, Bool, false, cond, not, eqb, get_or, set, take, drop, pos, Float, length, Option, Some, None}
+use Rattle.std.specs.Prelude.{ℕ, zero, suc, ◌+◌, ◌-◌, ◌*◌, ◌<◌, ◌≤◌, ◌≡◌, List, [], ◌∷◌, ◌++◌, reverse, map, Bool, false, not, get_or, set, take, drop, pos, Float, length, Option, Some, None, if◌then◌else◌, nat_eq, ◌==◌}
 use Rattle.std.specs.List.{filter, count_by, sum_by, list_any, range_with_len}
 use Rattle.std.specs.Float.{fin, binary64}
 use Rattle.std.specs.Float.Ieee.{eq, to_bits}
@@ -22,7 +22,7 @@ abbrev pub marked : Operation → Operation
 marked o = 3 ∷ drop 1 o
 
 abbrev pub is_marked : Operation → Bool
-is_marked o = eqb (kind o) 3
+is_marked o = (kind o == 3)
 
 -- what is not marked
 abbrev pub live : List Operation → List Operation
@@ -43,12 +43,12 @@ cancellations ps = count_by (λ p. p.cancelled) ps
 -- the place of the first operation that a rotation fuses with, the first of these being at `at`; none where it is stopped or comes to the end
 abbrev pub partner_from : Operation → (at : ℕ) → List Operation → Option ℕ
 partner_from a at [] = None
-partner_from a at (b ∷ rest) = cond (can_cross a b) (cond (can_fuse a b) (Some at) (partner_from a (suc at) rest)) None
+partner_from a at (b ∷ rest) = if can_cross a b then (if can_fuse a b then Some at else partner_from a (suc at) rest) else None
 
 -- the partner of operation i, which must be a rotation to have one
 abbrev pub partner_of : List Operation → ℕ → Option ℕ
 partner_of os i =
-    let a = get_or os i [] in cond (is_rotation a) (partner_from a (suc i) (drop (suc i) os)) None
+    let a = get_or os i [] in (if is_rotation a then partner_from a (suc i) (drop (suc i) os) else None)
 
 -- of either sign
 abbrev pub is_zero : Float → Bool
@@ -57,11 +57,11 @@ is_zero angle = eq angle (fin false 0 (pos 0))
 -- the later one of two with this angle, phase and constant, or marked where the angle is 0
 abbrev pub rewritten : (angle : Float) (phase constant : ℕ) → Operation → Operation
 rewritten angle phase constant b =
-    cond (is_zero angle) (marked b) (set (set (set b 1 (to_bits binary64 angle)) 4 phase) 5 constant)
+    if is_zero angle then marked b else set (set (set b 1 (to_bits binary64 angle)) 4 phase) 5 constant
 
 -- what the later one of two becomes
 abbrev pub met : Operation → Operation → Operation
-met a b = cond (cancels a b) (marked b) (fused a b)
+met a b = if cancels a b then marked b else fused a b
 
 -- a segment while it is fused: its operations, how many are left in front, and how many pairs there were
 pub record Fusing : Type 0 where
@@ -99,12 +99,12 @@ fuse_on (Some j) i s =
       operations = set s.operations j (met a b);
       left = s.left;
       fused = s.fused + 1;
-      cancelled = s.cancelled + cond (cancels a b) 1 0;
+      cancelled = s.cancelled + (if cancels a b then 1 else 0);
     }
 
 -- one turn; a marked operation is passed over
 abbrev pub fuse_turn : ℕ → Fusing → Fusing
-fuse_turn i s = cond (is_marked (get_or s.operations i [])) s (fuse_on (partner_of s.operations i) i s)
+fuse_turn i s = if is_marked (get_or s.operations i []) then s else fuse_on (partner_of s.operations i) i s
 
 -- ---- moving
 
@@ -161,7 +161,7 @@ pub record Going (end : ℕ) (p : Progress) : Type 0 where
 
 -- a segment ends there
 abbrev pub is_end : (n : ℕ) → (prefixes : List ℕ) → ℕ → Bool
-is_end n prefixes e = list_any (eqb e) (n ∷ prefixes)
+is_end n prefixes e = list_any (nat_eq e) (n ∷ prefixes)
 
 -- the ends from this one on
 abbrev pub ends_from : (n : ℕ) → (prefixes : List ℕ) → ℕ → List ℕ
@@ -169,7 +169,7 @@ ends_from n prefixes e = filter (is_end n prefixes) (range_with_len e (n + 1 - e
 
 -- the map's word where the code has marked the ends and no boundary is written
 abbrev pub mark : (n : ℕ) → (prefixes : List ℕ) → ℕ → ℕ
-mark n prefixes q = cond (is_end n prefixes q) 0 no_boundary
+mark n prefixes q = if is_end n prefixes q then 0 else no_boundary
 
 -- a boundary by the definition
 abbrev pub defined : List Operation → (prefixes : List ℕ) → ℕ → ℕ

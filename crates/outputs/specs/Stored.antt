@@ -1,5 +1,5 @@
 -- The six lent outputs that a stored plan has too: the words behind a `StoredOutputs`, their lengths, and that one lends the same outputs as another.
-use Rattle.std.specs.Prelude.{ℕ, ◌≡◌, List, [], length, Bool, ◌||◌, ltb}
+use Rattle.std.specs.Prelude.{ℕ, ◌≡◌, List, [], length, Bool, ◌||◌, nat_lt}
 use Rattle.definition.specs.Plan.{padded}
 use Rattle.outputs.specs.declared.WordCounts.{WordCounts}
 use Rattle.outputs.specs.declared.StoredOutputs.{StoredOutputs}
@@ -65,5 +65,5 @@ pub record Cleared (before after : Outputs) : Type 0 where
 -- "an output shorter than its section": one of the first counts is less than the second's
 abbrev pub outputs_short : WordCounts → WordCounts → Bool
 outputs_short lent counts =
-    ltb lent.steps counts.steps || ltb lent.merges counts.merges || ltb lent.sizes counts.sizes
-    || ltb lent.rotations counts.rotations || ltb lent.promotions counts.promotions || ltb lent.measurements counts.measurements
+    nat_lt lent.steps counts.steps || nat_lt lent.merges counts.merges || nat_lt lent.sizes counts.sizes
+    || nat_lt lent.rotations counts.rotations || nat_lt lent.promotions counts.promotions || nat_lt lent.measurements counts.measurements

@@ -1,6 +1,6 @@
 -- What is claimed of every list of operations and its preserved prefixes: 02, CR 6, "Also wanted". All is said of places in the input, of the input's operations
 -- and of what is left in order, in the words of an operation: what the passes themselves test is not named here.
-use Rattle.std.specs.Prelude.{ℕ, ◌+◌, ◌<◌, ◌≤◌, ◌≡◌, ◌≢◌, ◌⊎◌, ◌↔◌, List, [], map, true, false, cond, eqb, ltb, length, get_or}
+use Rattle.std.specs.Prelude.{ℕ, ◌+◌, ◌<◌, ◌≤◌, ◌≡◌, ◌≢◌, ◌⊎◌, ◌↔◌, List, [], map, true, false, length, get_or, if◌then◌else◌, nat_eq, nat_lt}
 use Rattle.std.specs.List.{All, AllPairs, Contains, filter, count_by}
 use Rattle.pending.specs.Operation.{Operation, is_rotation, is_measurement, has_string, same_string, strings_commute, conditions_of, word}
 use Rattle.passes.specs.Passes.{Placed, Pair}
@@ -8,7 +8,7 @@ use Rattle.passes.specs.Optimizing.{ends_of, segments_of, operations_in, pairs_i
 
 -- how often a place stands in a list
 abbrev pub times : ℕ → List ℕ → ℕ
-times p ps = count_by (eqb p) ps
+times p ps = count_by (nat_eq p) ps
 
 module _ (os : List Operation) (prefixes : List ℕ) where
   -- the input's operation at a place
@@ -77,6 +77,6 @@ module _ (os : List Operation) (prefixes : List ℕ) where
         times p (map (λ o. o.place) output)
         + times p (map (λ pair. pair.earlier) fusions)
         + times p (map (λ pair. pair.later) (filter (λ pair. pair.cancelled) fusions))
-        ≡ cond (ltb p (length os)) 1 0
+        ≡ (if nat_lt p (length os) then 1 else 0)
     -- "output = input - fused - cancelled"
     pub counts : length output + length fusions + count_by (λ pair. pair.cancelled) fusions ≡ length os

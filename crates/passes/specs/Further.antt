@@ -1,6 +1,6 @@
 -- What more is claimed of every list of operations and its preserved prefixes, which a definition would miss that changes angles, fuses in another order, or counts
 -- swaps wrongly.
-use Rattle.std.specs.Prelude.{ℕ, ◌+◌, ◌<◌, ◌≡◌, List, [], ◌∷◌, false, ltb, length, get_or, set, take}
+use Rattle.std.specs.Prelude.{ℕ, ◌+◌, ◌<◌, ◌≡◌, List, [], ◌∷◌, false, length, get_or, set, take, nat_lt}
 use Rattle.std.specs.List.{All, AllPairs, count_by, sum_by}
 use Rattle.pending.specs.Operation.{Operation}
 use Rattle.passes.specs.Passes.{Placed, Pair, fused, cancels}
@@ -19,7 +19,7 @@ fuse_pairs (p ∷ ps) now = fuse_pairs ps (fuse_pair p now)
 -- how many two operations stand in another order than in the input
 abbrev pub inversions : List Placed → ℕ
 inversions [] = 0
-inversions (a ∷ os) = count_by (λ b. ltb b.place a.place) os + inversions os
+inversions (a ∷ os) = count_by (λ b. nat_lt b.place a.place) os + inversions os
 
 module _ (os : List Operation) (prefixes : List ℕ) where
   -- the operations by place, when i pairs were fused

@@ -1,5 +1,5 @@
 -- What a call gives: refusals 26, 27 and 28, the shortcut for expectation values, and else the segments in order, the map and the counts. Written from 02, CR 6.
-use Rattle.std.specs.Prelude.{ℕ, suc, ◌+◌, ◌-◌, ◌^◌, List, [], ◌∷◌, map, Bool, cond, not, ◌&&◌, ltb, eqb, length, take, drop, Option, Some, None}
+use Rattle.std.specs.Prelude.{ℕ, suc, ◌+◌, ◌-◌, ◌^◌, List, [], ◌∷◌, map, Bool, not, ◌&&◌, length, take, drop, Option, Some, None, if◌then◌else◌, nat_eq, nat_lt, ◌==◌}
 use Rattle.std.specs.List.{filter, list_any, flat_map, sum_by, count_by, range_with_len, position_from}
 use Rattle.std.specs.Float.Ieee.{add, mul, eq, of_bits, to_bits}
 use Rattle.pending.specs.Operation.{Operation, operations_of, is_rotation, is_expectation, is_hermitian, commute, y_count}
@@ -15,7 +15,7 @@ placed_from n (o ∷ os) = placed n o ∷ placed_from (suc n) os
 
 -- the segments end at the preserved prefixes and at the end, "in any order, repeats allowed": so at each count from 1 to n that is one of these
 unfoldable pub ends_of : (n : ℕ) → (prefixes : List ℕ) → List ℕ
-ends_of n prefixes = filter (λ e. list_any (eqb e) (n ∷ prefixes)) (range_with_len 1 n)
+ends_of n prefixes = filter (λ e. list_any (nat_eq e) (n ∷ prefixes)) (range_with_len 1 n)
 
 -- each segment by itself, the first from `start` on
 unfoldable pub segments : (start : ℕ) → (ends : List ℕ) → List Placed → List Segment
@@ -37,11 +37,11 @@ unfoldable pub boundary : (p out : ℕ) (ends : List ℕ) → List Segment → �
 boundary p out [] ss = no_boundary
 boundary p out (e ∷ es) [] = no_boundary
 boundary p out (e ∷ es) (s ∷ ss) =
-    let after = out + length s.operations in cond (eqb p e) after (boundary p after es ss)
+    let after = out + length s.operations in (if (p == e) then after else boundary p after es ss)
 
 -- word p of the map
 abbrev pub mapped : (ends : List ℕ) → List Segment → ℕ → ℕ
-mapped ends ss p = cond (eqb p 0) 0 (boundary p 0 ends ss)
+mapped ends ss p = if (p == 0) then 0 else boundary p 0 ends ss
 
 -- ---- the answer
 
@@ -56,8 +56,7 @@ pub data Outcome : Type 0 where
 
 -- a refusal where the test holds, and else the rest
 abbrev pub refuse : Bool → (number index : ℕ) → Outcome → Outcome
-refuse Bool.true number index rest = refused number index
-refuse Bool.false number index rest = rest
+refuse test number index rest = if test then refused number index else rest
 
 -- "28": where the first operation stands that is a non-Hermitian rotation
 abbrev pub refuse_at : Option ℕ → (number : ℕ) → Outcome → Outcome
@@ -101,7 +100,6 @@ unfolding operations_of form_fits of_bits in_segments ends_of segments boundary 
 outcome_of width words prefixes optimized_len map_len =
     let os = operations_of words in
     refuse (not (form_fits width words prefixes optimized_len map_len)) 26 0
-    (cond (list_any is_expectation os) (optimized (as_it_is os))
-    (refuse (list_any (ltb (length os)) prefixes) 27 0
+    (if list_any is_expectation os then optimized (as_it_is os) else refuse (list_any (nat_lt (length os)) prefixes) 27 0
     (refuse_at (position_from is_odd_rotation 0 os) 28
-    (optimized (in_segments os prefixes)))))
+    (optimized (in_segments os prefixes))))

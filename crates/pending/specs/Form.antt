@@ -1,6 +1,6 @@
 -- The form of a list of pending operations: what 26 asks, in 02, CR 6: "A list or operation outside this form or these limits, mask bits at or above the width,
 -- or an output too short for the list or the map gives 26 first of all".
-use Rattle.std.specs.Prelude.{ℕ, ◌-◌, ◌*◌, ◌/◌, ◌%◌, ◌^◌, List, [], ◌∷◌, Bool, true, false, cond, ◌&&◌, ◌||◌, leb, ltb, eqb, length, get_or, drop, pos, Float}
+use Rattle.std.specs.Prelude.{ℕ, ◌-◌, ◌*◌, ◌/◌, ◌%◌, ◌^◌, List, [], ◌∷◌, Bool, true, false, ◌&&◌, ◌||◌, length, get_or, drop, pos, Float, if◌then◌else◌, nat_le, nat_lt, ◌==◌}
 use Rattle.std.specs.List.{list_all}
 use Rattle.std.specs.Float.{fin, binary64}
 use Rattle.std.specs.Float.Ieee.{of_bits, le}
@@ -32,15 +32,15 @@ angle_fits bits = within least_angle most_angle (of_bits binary64 bits)
 
 -- no bit at or above the width
 abbrev pub mask_fits : (width : ℕ) → ℕ → Bool
-mask_fits width mask = ltb mask (2 ^ width)
+mask_fits width mask = nat_lt mask (2 ^ width)
 
 -- "phases are 0 to 3"
 unfoldable pub string_fits : (width x z phase : ℕ) → Bool
-string_fits width x z phase = mask_fits width x && (mask_fits width z && leb phase 3)
+string_fits width x z phase = mask_fits width x && (mask_fits width z && nat_le phase 3)
 
 -- a condition that is used is "positive, strictly ascending", and one that is not is 0; `left` says how many are still used, from this one on
 abbrev pub condition_fits : (left last condition : ℕ) → Bool
-condition_fits left last c = cond (eqb left 0) (eqb c 0) (ltb last c && leb c most_number)
+condition_fits left last c = if (left == 0) then (c == 0) else nat_lt last c && nat_le c most_number
 
 -- all conditions, the first `left` of them used and above the last one
 abbrev pub conditions_fit : (left last : ℕ) → List ℕ → Bool
@@ -49,15 +49,15 @@ conditions_fit left last (c ∷ cs) = condition_fits left last c && conditions_f
 
 -- "sign: constant 0 or 1, count, eight conditions, unused ones 0"
 unfoldable pub sign_fits : List ℕ → Bool
-sign_fits s = leb (get_or s 0 0) 1 && (leb (get_or s 1 0) 8 && conditions_fit (get_or s 1 0) 0 (drop 2 s))
+sign_fits s = nat_le (get_or s 0 0) 1 && (nat_le (get_or s 1 0) 8 && conditions_fit (get_or s 1 0) 0 (drop 2 s))
 
 -- an Option's flag and value
 unfoldable pub option_fits : (flag value : ℕ) → Bool
-option_fits flag value = leb flag 1 && (leb value most_number && (eqb flag 1 || eqb value 0))
+option_fits flag value = nat_le flag 1 && (nat_le value most_number && ((flag == 1) || (value == 0)))
 
 -- "then zeros"
 abbrev pub all_zero : List ℕ → Bool
-all_zero ws = list_all (λ w. eqb w 0) ws
+all_zero ws = list_all (λ w. (w == 0)) ws
 
 unfoldable pub rotation_fits : (width : ℕ) → Operation → Bool
 rotation_fits width o =
@@ -83,8 +83,8 @@ operation_fits width o = get_or (rotation_fits width o ∷ measurement_fits widt
 unfoldable pub form_fits : (width : ℕ) (words prefixes : List ℕ) (optimized_len map_len : ℕ) → Bool
 unfolding operations_of operation_fits rotation_fits measurement_fits record_fits string_fits sign_fits option_fits within of_bits le
 form_fits width words prefixes optimized_len map_len =
-    leb 1 width && (leb width 64
-    && (eqb (length words % 32) 0 && (leb (length words) (32 * most_operations)
-    && (leb (length prefixes) most_prefixes
-    && (leb (length words) optimized_len && (ltb (length words / 32) map_len
+    nat_le 1 width && (nat_le width 64
+    && (((length words % 32) == 0) && (nat_le (length words) (32 * most_operations)
+    && (nat_le (length prefixes) most_prefixes
+    && (nat_le (length words) optimized_len && (nat_lt (length words / 32) map_len
     && list_all (operation_fits width) (operations_of words)))))))

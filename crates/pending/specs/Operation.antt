@@ -2,7 +2,7 @@
 -- order (string: x, z, phase; sign: constant 0 or 1, count, eight conditions, unused ones 0; floats as bits), then zeros". The Rust's list has rotations,
 -- measurements and classical records. A rotation's fields are angle, string and sign; a measurement's string, sign, record, record_condition and exp_val; a
 -- classical record's outcome, which is a sign, record and record_condition. An Option is two words: 0, 0 or 1, value.
-use Rattle.std.specs.Prelude.{ℕ, suc, ◌+◌, ◌*◌, ◌/◌, ◌%◌, List, Bool, cond, ◌&&◌, ltb, eqb, length, get_or, take, drop, Float}
+use Rattle.std.specs.Prelude.{ℕ, suc, ◌+◌, ◌*◌, ◌/◌, ◌%◌, List, Bool, ◌&&◌, length, get_or, take, drop, Float, if◌then◌else◌, nat_lt, ◌==◌}
 use Rattle.std.specs.Int.Bits.{bit_and}
 use Rattle.std.specs.Int.Count.{ones_in}
 use Rattle.std.specs.Float.{binary64}
@@ -30,24 +30,24 @@ abbrev pub kind : Operation → ℕ
 kind o = word o 0
 
 abbrev pub is_rotation : Operation → Bool
-is_rotation o = eqb (kind o) 0
+is_rotation o = (kind o == 0)
 
 abbrev pub is_measurement : Operation → Bool
-is_measurement o = eqb (kind o) 1
+is_measurement o = (kind o == 1)
 
 -- "exp_val may be 0, so 0 alone cannot mean none": its flag is word 18
 abbrev pub is_expectation : Operation → Bool
-is_expectation o = is_measurement o && eqb (word o 18) 1
+is_expectation o = is_measurement o && (word o 18 == 1)
 
 -- ---- Pauli strings
 
 -- rotations and measurements have one
 abbrev pub has_string : Operation → Bool
-has_string o = ltb (kind o) 2
+has_string o = nat_lt (kind o) 2
 
 -- the word where it begins: behind a rotation's angle, and behind a measurement's kind
 abbrev pub string_at : Operation → ℕ
-string_at o = cond (is_rotation o) 2 1
+string_at o = if is_rotation o then 2 else 1
 
 abbrev pub x_of : Operation → ℕ
 x_of o = word o (string_at o)
@@ -58,13 +58,13 @@ z_of o = word o (suc (string_at o))
 -- two strings commute: the overlaps of x with z and of z with x are even in number, taken together
 unfoldable pub commute : (x z x' z' : ℕ) → Bool
 unfolding ones_in
-commute x z x' z' = eqb ((ones_in 64 (bit_and x z') + ones_in 64 (bit_and z x')) % 2) 0
+commute x z x' z' = (((ones_in 64 (bit_and x z') + ones_in 64 (bit_and z x')) % 2) == 0)
 
 abbrev pub strings_commute : Operation → Operation → Bool
 strings_commute a b = commute (x_of a) (z_of a) (x_of b) (z_of b)
 
 abbrev pub same_string : Operation → Operation → Bool
-same_string a b = eqb (x_of a) (x_of b) && eqb (z_of a) (z_of b)
+same_string a b = (x_of a == (x_of b)) && (z_of a == (z_of b))
 
 -- ---- a rotation's fields
 
@@ -92,7 +92,7 @@ coefficient o = (phase_of o + 3 * y_count o) % 4
 
 -- "a non-Hermitian rotation": that is odd, so that the string's coefficient is not real
 abbrev pub is_hermitian : Operation → Bool
-is_hermitian o = eqb (coefficient o % 2) 0
+is_hermitian o = ((coefficient o % 2) == 0)
 
 -- the sign's constant with the string's own sign in it, which is minus where the coefficient is 2
 abbrev pub whole_sign : Operation → ℕ

@@ -1,6 +1,6 @@
 -- What the words of a plan give back for one record, by the state in which the definition's walk comes to it: the step, the row with the definition's kernel, and the
 -- row's part of the merge list. Written from 01, section 4.
-use Rattle.std.specs.Prelude.{ℕ, ◌<◌, ◌≡◌, [], eqb, length, get_or, Option, Some}
+use Rattle.std.specs.Prelude.{ℕ, ◌<◌, ◌≡◌, [], length, get_or, Option, Some, ◌==◌}
 use Rattle.refusals.specs.Answer.{Answer, given}
 use Rattle.kernels.specs.Active.{rotation, measurement}
 use Rattle.kernels.specs.declared.active.PrecomputedActivePauliRotationKernel.{PrecomputedActivePauliRotationKernel}
@@ -28,7 +28,7 @@ abbrev pub rotation_of : Walk → Join → PrecomputedActivePauliRotationKernel 
 rotation_of w j k = record { head = head_of w j; kernel = k }
 
 abbrev pub measurement_of : Walk → Join → PrecomputedActivePauliMeasurementKernel → MeasurementRow
-measurement_of w j k = record { head = head_of w j; kernel = k; deactivated = eqb (length (remove_at k.pivot j.members)) 0 }
+measurement_of w j k = record { head = head_of w j; kernel = k; deactivated = ((length (remove_at k.pivot j.members)) == 0) }
 
 -- a record that joins: its step has the kind and the row's number, the row read at that number is that of the definition's kernel, and the row's part of the merge list is
 -- the join's sources

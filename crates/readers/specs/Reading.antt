@@ -1,5 +1,5 @@
 -- What the contracts of the readers say: parts of the merge list, steps and rows by number, and the row that words say. Written from 01, section 4, and "Forms for parts of the code".
-use Rattle.std.specs.Prelude.{ℕ, ◌+◌, ◌*◌, List, [], map, Option, Some, None, Bool, cond, not, leb, eqb, length, get_or, take, drop}
+use Rattle.std.specs.Prelude.{ℕ, ◌+◌, ◌*◌, List, [], map, Option, Some, None, Bool, not, length, get_or, take, drop, if◌then◌else◌, nat_le, ◌==◌}
 use Rattle.std.specs.Option.{option_map, unwrap_or}
 use Rattle.std.specs.Float.{binary64}
 use Rattle.std.specs.Float.Ieee.{of_bits}
@@ -16,16 +16,16 @@ use Rattle.readers.specs.declared.StepWords.{StepWords}
 
 -- "the part from merge offset on, of merge count words"; "a row whose offset and count run past the end of the lent merge buffer gets an empty part"
 abbrev pub part_of : List ℕ → ℕ → ℕ → List ℕ
-part_of ws offset count = cond (leb (offset + count) (length ws)) (take count (drop offset ws)) []
+part_of ws offset count = if nat_le (offset + count) (length ws) then take count (drop offset ws) else []
 
 -- the n words of the row with this number, where the whole row is there
 abbrev pub row_at : ℕ → List ℕ → ℕ → Option (List ℕ)
-row_at n ws i = cond (leb (n * i + n) (length ws)) (Some (take n (drop (n * i) ws))) None
+row_at n ws i = if nat_le (n * i + n) (length ws) then Some (take n (drop (n * i) ws)) else None
 
 -- ---- values of words: "Flags are 0 or 1, floats stand as their bits". A flag above 1 counts as set, and a NaN pattern is the one NaN
 
 abbrev pub flag_in : ℕ → Bool
-flag_in w = not (eqb w 0)
+flag_in w = not (w == 0)
 
 abbrev pub complex_in : ℕ → ℕ → Complex64
 complex_in a b = complex (of_bits binary64 a) (of_bits binary64 b)

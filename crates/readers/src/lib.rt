@@ -2,7 +2,7 @@
 #![tactic(auto)]
 
 ghost use Rattle.std.specs.Prelude.{◌≡◌, ℕ, ◌<◌, ◌≤◌, List, length};
-ghost use Rattle.readers.specs.Reading.{part_of, complex_in, head_in, action_in, rotation_in, measurement_in, step_in, row_read, rotation_or_zero, filled_rows};
+ghost use Rattle.readers.specs.Reading.{part_of, complex_in, head_in, action_in, rotation_in, measurement_in, step_in, row_read, step_at, rotation_at, measurement_at, rotation_or_zero, filled_rows};
 
 use kernels::active::{
     ActivePauliAction, Complex64, PrecomputedActivePauliMeasurementKernel,
@@ -158,6 +158,13 @@ pub fn read<R: FromWords>(rows: &[u64], number: u64) -> Option<R>
     let row = rows.get(at..)?.get(..R::WORDS)?;
     Some(R::from_words(row))
 }
+
+// What `read` gives at the three types: the step, rotation or measurement of the number.
+pub fn reads()
+    ensures steps { row_read ⟦<StepWords as FromWords>⟧.WORDS ⟦<StepWords as FromWords>⟧.value ≡ step_at }
+    ensures rotations { row_read ⟦<RotationRow as FromWords>⟧.WORDS ⟦<RotationRow as FromWords>⟧.value ≡ rotation_at }
+    ensures measurements { row_read ⟦<MeasurementRow as FromWords>⟧.WORDS ⟦<MeasurementRow as FromWords>⟧.value ≡ measurement_at }
+{}
 
 // Rotation row i, or the row of zeros past the last whole row.
 #[tactic(auto, unfolding(crate::specs::Reading::rotation_in))]

@@ -1,5 +1,5 @@
 -- The record pass: refusals 5 to 10, and 25. 01, "Where planning stops", the row "Record pass", unless a comment names another place.
-use Rattle.std.specs.Prelude.{ℕ, zero, suc, ◌+◌, ◌-◌, ◌^◌, List, [], ◌∷◌, Bool, ◌&&◌, cond, ltb, eqb, get_or, pos, negsuc, Float, Result, Ok, Err}
+use Rattle.std.specs.Prelude.{ℕ, zero, suc, ◌+◌, ◌-◌, ◌^◌, List, [], ◌∷◌, Bool, ◌&&◌, get_or, pos, negsuc, Float, Result, Ok, Err, if◌then◌else◌, nat_lt, ◌==◌}
 use Rattle.std.specs.Float.{fin, binary64}
 use Rattle.std.specs.Float.Ieee.{add, mul, le, of_bits}
 use Rattle.std.specs.Float.Ieee.Scale.{finite}
@@ -24,11 +24,11 @@ within_one x = within minus_one one x
 
 -- "6: width > 62. 7: phase > 3". A number 0 says that the record passes.
 unfoldable pub action_number : List ℕ → ℕ
-action_number r = cond (ltb 62 (width r)) 6 (cond (ltb 3 (phase r)) 7 0)
+action_number r = if nat_lt 62 (width r) then 6 else (if nat_lt 3 (phase r) then 7 else 0)
 
 -- "8: angle not finite, or sine or cosine not in -1 to 1"
 unfoldable pub floats_number : List ℕ → ℕ
-floats_number r = cond (finite (angle r) && (within_one (sine r) && within_one (cosine r))) 0 8
+floats_number r = if finite (angle r) && (within_one (sine r) && within_one (cosine r)) then 0 else 8
 
 -- 02, CR 5: "s·s + c·c, worked in floats": each of the three operations is rounded
 unfoldable pub square_sum : (s c : Float) → Float
@@ -47,7 +47,7 @@ sums_to_one s c = within least_sum most_sum (square_sum s c)
 
 -- 02, CR 5: "A failing pair gives 25"
 unfoldable pub squares_number : List ℕ → ℕ
-squares_number r = cond (sums_to_one (sine r) (cosine r)) 0 25
+squares_number r = if sums_to_one (sine r) (cosine r) then 0 else 25
 
 -- "in table order": the first of two numbers that is not 0
 unfoldable pub or_else : ℕ → ℕ → ℕ
@@ -60,7 +60,7 @@ rotation_number r = or_else (action_number r) (or_else (floats_number r) (square
 
 -- "10: a promotion that would make the 513th coordinate"
 unfoldable pub promotion_number : (coordinates : ℕ) → ℕ
-promotion_number coordinates = cond (ltb coordinates 512) 0 10
+promotion_number coordinates = if nat_lt coordinates 512 then 0 else 10
 
 -- By the flag. "9: flag > 1 (checked before 6)". Flag 1 leaves width and phase unread (01, section 2).
 unfoldable pub measurement_number : List ℕ → ℕ
@@ -77,7 +77,7 @@ number_of coordinates r = get_or (numbers_by_kind coordinates r) (kind r) 5
 
 -- a promotion makes one coordinate (01, section 4)
 abbrev pub coordinates_after : (coordinates : ℕ) → List ℕ → ℕ
-coordinates_after coordinates r = cond (eqb (kind r) 1) (suc coordinates) coordinates
+coordinates_after coordinates r = if (kind r == 1) then suc coordinates else coordinates
 
 -- the record pass's answer: "A refusal returns its number and record index"
 pub data Checked : Type 0 where

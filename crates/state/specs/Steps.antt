@@ -1,5 +1,5 @@
 -- What the contracts of the crate `state` say: the state's arrays after each step, entry by entry. 01, section 4.
-use Rattle.std.specs.Prelude.{ℕ, suc, ◌+◌, ◌-◌, ◌<◌, ◌≤◌, ◌≡◌, List, [], ◌∷◌, cond, eqb, ltb, length, get_or, set, drop, replicate}
+use Rattle.std.specs.Prelude.{ℕ, suc, ◌+◌, ◌-◌, ◌<◌, ◌≤◌, ◌≡◌, List, [], ◌∷◌, length, get_or, set, drop, replicate, if◌then◌else◌, nat_lt, ◌==◌}
 use Rattle.positions.specs.Positions.{Below512}
 use Rattle.state.specs.declared.State.{State}
 
@@ -12,7 +12,7 @@ pub record InOrder (k : ℕ) (order : List ℕ) : Type 0 where
 
 -- the position before a removal of what stands at p after it
 abbrev pub skip : ℕ → ℕ → ℕ
-skip pivot p = cond (ltb p pivot) p (suc p)
+skip pivot p = if nat_lt p pivot then p else suc p
 
 -- "the coordinate at the pivot's active position leaves, the order otherwise kept"
 pub record Closed (pivot last : ℕ) (before after : List ℕ) : Type 0 where
@@ -71,7 +71,7 @@ pub record Joinable (size sources : List ℕ) : Type 0 where
   pub few : (gathering size sources).grown ≤ 255
 
 pub record Joined (s : State) (sources : List ℕ) (r : State) : Type 0 where
-  pub component : (p : ℕ) → p < s.width → get_or r.component p 0 ≡ cond (eqb (rise_at s sources p) 0) (get_or s.component p 0) (target_of sources)
+  pub component : (p : ℕ) → p < s.width → get_or r.component p 0 ≡ (if (rise_at s sources p == 0) then get_or s.component p 0 else target_of sources)
   pub place : (p : ℕ) → p < s.width → get_or r.place p 0 ≡ get_or s.place p 0 + rise_at s sources p
   pub size : r.size ≡ sizes_after s.size sources
   pub width : r.width ≡ s.width
@@ -104,7 +104,7 @@ promoted s = record {
 
 -- the place j of a member of c, after the member at place q of the component t has left
 abbrev pub lowered : ℕ → ℕ → ℕ → ℕ → ℕ
-lowered t q c j = cond (eqb c t) (cond (ltb q j) (j - 1) j) j
+lowered t q c j = if (c == t) then (if nat_lt q j then j - 1 else j) else j
 
 pub record Removed (s : State) (pivot : ℕ) (r : State) : Type 0 where
   pub component : (p : ℕ) → suc p < s.width → get_or r.component p 0 ≡ get_or s.component (skip pivot p) 0

@@ -1,5 +1,5 @@
 -- What the contract of `store` says: its answer, the seven buffers and every byte of the file. Written from 02, CR 2.
-use Rattle.std.specs.Prelude.{ℕ, ◌≡◌, ◌≤◌, List, ltb, length, take, Result as Answered, Ok, Err}
+use Rattle.std.specs.Prelude.{ℕ, ◌≡◌, ◌≤◌, List, length, take, Result as Answered, Ok, Err, nat_lt}
 use Rattle.refusals.specs.Numbers.{number_of}
 use Rattle.refusals.specs.declared.Refusal.{Refusal}
 use Rattle.records.specs.declared.Head.{Head}
@@ -14,7 +14,7 @@ use Rattle.plan_file.specs.Writing.{kept_in}
 
 -- "Planning's refusals come first, then 23 for a short file buffer", of n bytes
 abbrev pub fitting : ℕ → Result → Result
-fitting n (planned p) = refuse_all (ltb n (length (file_of p))) 23 (planned p)
+fitting n (planned p) = refuse_all (nat_lt n (length (file_of p))) 23 (planned p)
 fitting n (refused_at number index) = refused_at number index
 
 -- what storing gives for a head, the record words, the lengths of the lent buffers and that of the file

@@ -1,6 +1,6 @@
 -- What reading any list of bytes gives: refusals 21, 22 and 23 in this order, and else the sections. Written from 02, CR 2: "Reading looks at the trailer and
 -- component_count only and hands every other word back unjudged".
-use Rattle.std.specs.Prelude.{ℕ, ◌+◌, ◌-◌, ◌*◌, ◌/◌, ◌%◌, List, [], ◌∷◌, map, Bool, true, false, not, ◌&&◌, ◌||◌, eqb, ltb, length, get_or}
+use Rattle.std.specs.Prelude.{if◌then◌else◌, ℕ, ◌+◌, ◌-◌, ◌*◌, ◌/◌, ◌%◌, List, [], ◌∷◌, map, Bool, true, false, not, ◌&&◌, ◌||◌, length, get_or, nat_lt, ◌==◌}
 use Rattle.definition.specs.Lists.{numbers_from}
 use Rattle.outputs.specs.declared.WordCounts.{WordCounts}
 use Rattle.outputs.specs.Stored.{outputs_short}
@@ -13,8 +13,7 @@ pub data Read : Type 0 where
 
 -- a refusal where the test holds, and else the rest
 abbrev pub refuse : Bool → ℕ → Read → Read
-refuse true number rest = refused number
-refuse false number rest = rest
+refuse test number rest = if test then refused number else rest
 
 module _ (file : List ℕ) where
   -- how many words stand in front of the trailer
@@ -28,8 +27,8 @@ module _ (file : List ℕ) where
   -- 21: "a file under 128 bytes, not a multiple of 8, or with a wrong length or version word"
   abbrev pub file_refused : Bool
   file_refused =
-      ltb (length file) 128 || not (eqb (length file % 8) 0)
-      || not (eqb (trailer_word 14) (length file)) || not (eqb (trailer_word 15) 1)
+      nat_lt (length file) 128 || not ((length file % 8) == 0)
+      || not (trailer_word 14 == (length file)) || not (trailer_word 15 == 1)
 
   -- section s, by its "start and count, in words"
   abbrev pub section_in : ℕ → List ℕ
@@ -48,9 +47,9 @@ module _ (file : List ℕ) where
 
 -- starts and counts in turn: "Sections touch, in that order", from word `at` to word `end`. They are added up as numbers, so that no sum wraps
 abbrev pub touch : ℕ → ℕ → List ℕ → Bool
-touch at end [] = eqb at end
+touch at end [] = (at == end)
 touch at end (start ∷ []) = false
-touch at end (start ∷ count ∷ rest) = eqb start at && touch (at + count) end rest
+touch at end (start ∷ count ∷ rest) = (start == at) && touch (at + count) end rest
 
 -- 22: "sections out of place", for they touch "from word 0 to the trailer"
 abbrev pub places_refused : List ℕ → Bool
@@ -70,18 +69,18 @@ counts_of k = record {
 -- "an odd steps count, a sizes count that is not component_count, a rotation or measurement count that is no multiple of 21 or 19"
 abbrev pub odd_counts : WordCounts → ℕ → Bool
 odd_counts counts components =
-    not (eqb (counts.steps % 2) 0) || not (eqb counts.sizes components)
-    || not (eqb (counts.rotations % 21) 0) || not (eqb (counts.measurements % 19) 0)
+    not ((counts.steps % 2) == 0) || not (counts.sizes == components)
+    || not ((counts.rotations % 21) == 0) || not ((counts.measurements % 19) == 0)
 
 -- 23, "a scalar count that is not 8" too; component_count is the third scalar field
 abbrev pub counts_refused : WordCounts → Kept → Bool
 counts_refused lent k =
-    not (eqb (length k.scalars) 8) || odd_counts (counts_of k) (get_or k.scalars 2 0) || outputs_short lent (counts_of k)
+    not (length k.scalars == 8) || odd_counts (counts_of k) (get_or k.scalars 2 0) || outputs_short lent (counts_of k)
 
 -- what reading a file gives, with outputs of these lengths lent
 abbrev pub read_file : List ℕ → WordCounts → Read
 read_file file lent =
-    refuse (file_refused file) 21
-    (refuse (places_refused file) 22
-    (refuse (counts_refused lent (kept_in file)) 23
-    (restored (kept_in file))))
+    if file_refused file then refused 21
+    else (if places_refused file then refused 22
+    else (if counts_refused lent (kept_in file) then refused 23
+    else restored (kept_in file)))

@@ -1,5 +1,5 @@
 -- What the contracts of the crate `tally` say. 01, section 4, and 02, CR 1: the whole works are kept modulo 2 ^ 64.
-use Rattle.std.specs.Prelude.{ℕ, ◌+◌, ◌-◌, ◌*◌, ◌%◌, ◌^◌, ◌<◌, ◌≤◌, max, false, cond, List, [], ◌∷◌, map, length, drop, pos, nat_le, slice_index, slice_index_or, Float}
+use Rattle.std.specs.Prelude.{ℕ, ◌+◌, ◌-◌, ◌*◌, ◌%◌, ◌^◌, ◌<◌, ◌≤◌, max, false, List, [], ◌∷◌, map, length, drop, pos, nat_le, slice_index, slice_index_or, Float, if◌then◌else◌}
 use Rattle.std.specs.Float.{fin, binary64}
 use Rattle.std.specs.Float.Ieee.{add, mul}
 use Rattle.kernels.specs.Bits.{exp2}
@@ -56,7 +56,7 @@ pub record JoinFits (t : Tally) (j : Joining) : Type 0 where
 
 -- the dimension that a component of a size has without one of its members
 abbrev pub power_left : ℕ → ℕ
-power_left size = cond (nat_le size 1) 0 (2 ^ (size - 1))
+power_left size = if nat_le size 1 then 0 else 2 ^ (size - 1)
 
 unfoldable pub start_tally : ℕ → Tally
 start_tally k = record {

@@ -1,6 +1,6 @@
 -- What the contracts of the crate `turns` say, over the state's arrays as lists: what a record does before and after its join. 01, section 4, and "Where planning
 -- stops".
-use Rattle.std.specs.Prelude.{ℕ, ◌+◌, ◌*◌, ◌%◌, ◌^◌, ◌<◌, ◌≤◌, max, ◌≡◌, List, [], ◌∷◌, cond, eqb, leb, length, get_or, set, Float, Option, None, Some, Result, Ok, Err}
+use Rattle.std.specs.Prelude.{ℕ, ◌+◌, ◌*◌, ◌%◌, ◌^◌, ◌<◌, ◌≤◌, max, ◌≡◌, List, [], ◌∷◌, length, get_or, set, Float, Option, None, Some, Result, Ok, Err, if◌then◌else◌, nat_le, ◌==◌}
 use Rattle.refusals.specs.Answer.{Answer, given, refused, number_or_0}
 use Rattle.refusals.specs.Numbers.{number_of}
 use Rattle.refusals.specs.declared.Reason.{Reason}
@@ -32,8 +32,8 @@ pub record GatherFits (component size : List ℕ) (width offset room x z : ℕ) 
 
 -- "11: width not k"; "12: width not k. 13: k = 0". A number 0 says that there is no refusal
 unfoldable pub number_before : ℕ → Instruction → ℕ
-number_before width (Rotation w x z phase angle sine cosine) = cond (eqb w width) 0 11
-number_before width (Measurement w x z phase pivot) = cond (eqb w width) (cond (eqb width 0) 13 0) 12
+number_before width (Rotation w x z phase angle sine cosine) = if (w == width) then 0 else 11
+number_before width (Measurement w x z phase pivot) = if (w == width) then (if (width == 0) then 13 else 0) else 12
 number_before width Promotion = 0
 number_before width RecordMeasurement = 0
 number_before width RecordDetector = 0
@@ -42,8 +42,8 @@ number_before width DormantBranch = 0
 
 -- the sources of the join that a record makes: none where it is refused, where no coordinate is active, and for the kinds that join nothing
 unfoldable pub sources_before : ℕ → (ℕ → ℕ → List ℕ) → Instruction → List ℕ
-sources_before width sources (Rotation w x z phase angle sine cosine) = cond (eqb w width) (cond (eqb width 0) [] (sources x z)) []
-sources_before width sources (Measurement w x z phase pivot) = cond (eqb w width) (cond (eqb width 0) [] (sources x z)) []
+sources_before width sources (Rotation w x z phase angle sine cosine) = if (w == width) then (if (width == 0) then [] else sources x z) else []
+sources_before width sources (Measurement w x z phase pivot) = if (w == width) then (if (width == 0) then [] else sources x z) else []
 sources_before width sources Promotion = []
 sources_before width sources RecordMeasurement = []
 sources_before width sources RecordDetector = []
@@ -113,10 +113,7 @@ pub record RotationDone (width index : ℕ) (join : Joining) (tally next : Tally
 -- 14: 02, CR 4, "a component whose size is the ceiling or more", which is the limit here. "15: pivot >= k. 16: its coordinate is outside the target"
 abbrev pub pivot_answer : {K : Type 0} → ℕ → List ℕ → ℕ → ℕ → Joining → Answer K → Answer K
 pivot_answer limit component pivot width join rest =
-    cond (leb limit join.size) (refused 14)
-    (cond (leb width pivot) (refused 15)
-    (cond (eqb (get_or component pivot 0) join.target) rest
-    (refused 16)))
+    if nat_le limit join.size then refused 14 else (if nat_le width pivot then refused 15 else (if (get_or component pivot 0 == join.target) then rest else refused 16))
 
 -- 14 to 16, and else the kernel, or 17 to 20
 abbrev pub measurement_answer : ℕ → List ℕ → List ℕ → ℕ → ℕ → ℕ → ℕ → ℕ → Joining → Answer PrecomputedActivePauliMeasurementKernel
@@ -127,7 +124,7 @@ pub record MeasurementDone (width index : ℕ) (join : Joining) (tally next : Ta
   pub sums : next ≡ measured_tally tally join width
   pub step : steps' ≡ patch (2 * index) (4 ∷ tally.measurements ∷ []) steps
   pub size : sizes' ≡ raised sizes join
-  pub row : measurements' ≡ patch (19 * tally.measurements) (measurement_row join.target tally.merges join.count k (eqb join.size 1)) measurements
+  pub row : measurements' ≡ patch (19 * tally.measurements) (measurement_row join.target tally.merges join.count k (join.size == 1)) measurements
 
 -- what a promotion asks
 pub record PromotionFits (next width index : ℕ) (tally : Tally) (steps sizes promotions : List ℕ) : Type 0 where

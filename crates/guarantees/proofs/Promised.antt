@@ -1,0 +1,163 @@
+-- Each promise, from the lemmas of the crates below: they speak of an answer of the planner, and `Leaving.said` finds one for each call.
+use Rattle.std.specs.Prelude.{Some, None, Ok, Err}
+use Prim.Native.Nat.{ℕ, ◌/◌, ◌<◌}
+use native.Mathlib.Omega.{arith}
+use mathlib.Core.Path.{◌≡◌, sym, ap, ◌∙◌, subst, subst₂}
+use mathlib.Core.List.{List}
+use lib.ListN.{length}
+use Rattle.records.specs.Record.{instructions_of}
+use Rattle.records.specs.declared.Head.{Head}
+use Rattle.refusals.specs.declared.Refusal.{Refusal}
+use Rattle.definition.specs.Plan.{Plan, Result, planned, plan_of}
+use Rattle.definition.specs.Connectivity.{Connected, replay_after}
+use Rattle.definition.specs.Sources.{SourcesListed}
+use Rattle.definition.specs.Groups.{GroupsListed}
+use Rattle.definition.specs.Laws.{Agree, TooWideExactly, HasDimensions, under, HoldsPlan}
+use Rattle.definition.proofs.Connected.{read_head}
+use Rattle.definition.proofs.Padded.{zeroed_at}
+use Rattle.definition.proofs.Under.{same_plan, no_other}
+use Rattle.outputs.specs.Outputs.{Buffers, lengths_of}
+use Rattle.outputs.specs.declared.WordCounts.{WordCounts}
+use Rattle.answer.specs.declared.ActiveComponentPlan.{ActiveComponentPlan}
+use Rattle.answer.specs.Outcome.{used_in, outcome_of, outcome_in}
+use Rattle.component_plan.specs.Answer.{Answers}
+use Rattle.component_plan.specs.Demand.{plan_in}
+use Rattle.component_plan.proofs.Demand.{planned_pads, call_connected, call_sources, call_groups, call_works_agree, call_too_wide, call_dimensions, call_squares, call_under}
+use Rattle.midvokt.specs.Reply.{number_of}
+use Rattle.readers.proofs.Planned.{planned_back}
+use Rattle.store.proofs.Restoring.{call_written}
+use Rattle.stored_plan.proofs.RoundTrip.{file_is}
+use Rattle.stored_plan.proofs.Plans.{same_file}
+use Rattle.optimizer.proofs.Left.{left}
+use Rattle.guarantees.specs.Calls.{Leaves}
+use Rattle.guarantees.specs.Promises.{ComponentsAreRight, SourcesAreListed, GroupsAreListed, WorksAgree, TooWideIsExact, PairsAreUnits, DimensionsFit, PlanIsKept, NoOtherPlan, RowsAreRead, StoredIsReadBack, FileIsOne, PlanIsOne, ListIsKept}
+use Rattle.guarantees.proofs.Leaving.{said}
+
+pub components : ComponentsAreRight
+components h ws before after p leaves read m within =
+    let s = said h ws before after p leaves in
+    subst (λ (q : Plan). Connected h.initial_k (instructions_of ws) q m) s.same (call_connected h ws before after s.answer s.answers read.wide read.no_values m within)
+
+-- an answer uses as many words as the definition's plan
+used_same : (r : ActiveComponentPlan) (result : Result) (q : Plan) → outcome_of (Ok r) ≡ outcome_in result → result ≡ planned q → r.used ≡ used_in q
+used_same r result q e f = let given : outcome_of (Ok r) ≡ outcome_in (planned q) = e ∙ ap outcome_in f in cc
+
+pub sources : SourcesAreListed
+sources h ws before after p q leaves read is =
+    let s = said h ws before after p leaves in
+    let used = used_same s.answer (plan_of h ws (lengths_of before)) q s.answers.answer is in
+    subst₂ (λ (x : Plan) (n : WordCounts). SourcesListed h.initial_k (instructions_of ws) x (n.rotations / 21) (n.measurements / 19)) s.same used
+    (call_sources h ws before after s.answer s.answers read.wide read.no_values)
+
+pub groups : GroupsAreListed
+groups h ws before after p leaves read =
+    let s = said h ws before after p leaves in
+    subst (λ (q : Plan). (zeros : ℕ) × GroupsListed (replay_after q (length (instructions_of ws))) zeros q.groups) s.same
+    (call_groups h ws before after s.answer s.answers read.wide read.no_values)
+
+pub works_agree : WorksAgree
+works_agree h ws before after p leaves =
+    let s = said h ws before after p leaves in
+    subst (λ (q : Plan). Agree q.whole_works q.dense_work q.component_work) s.same (call_works_agree h ws before after s.answer s.answers)
+
+pub too_wide : TooWideIsExact
+too_wide h ws before after p leaves read =
+    let s = said h ws before after p leaves in
+    subst (λ (q : Plan). TooWideExactly h.initial_k (instructions_of ws) q.whole_works) s.same (call_too_wide h ws before after s.answer s.answers read.wide read.no_values)
+
+pub pairs : PairsAreUnits
+pairs h ws before after p leaves read = let s = said h ws before after p leaves in call_squares h ws before after s.answer s.answers read.wide read.no_values
+
+pub dimensions : DimensionsFit
+dimensions h ws before after p leaves read =
+    let s = said h ws before after p leaves in
+    subst (HasDimensions h.ceiling (length (instructions_of ws))) s.same (call_dimensions h ws before after s.answer s.answers read.wide read.no_values)
+
+-- ---- ceilings
+
+-- answers with one outcome say one plan
+one_plan : (r r' : ActiveComponentPlan) (after after' : Buffers) → outcome_of (Ok r') ≡ outcome_of (Ok r) → after' ≡ after → plan_in r' after' ≡ plan_in r after
+one_plan r r' after after' e same = cc
+
+module _ (h : Head) (ws : List ℕ) (before after before' after' : Buffers) (ceiling : ℕ) (lengths : lengths_of before' ≡ lengths_of before) (r : ActiveComponentPlan)
+    (answers : Answers h ws before after (Ok r)) where
+  -- an answer that holds under the ceiling is the definition's plan, and a call there is of it
+  kept_answer : HoldsPlan ceiling h (plan_in r after) → (r' : ActiveComponentPlan) → Answers (under ceiling h) ws before' after' (Ok r') → plan_in r' after' ≡ plan_in r after
+  kept_answer holds r' a =
+      let both = call_under h ws before after r answers ceiling holds before' after' (Ok r') lengths a in
+      one_plan r r' after after' both.0 both.1
+
+  kept_refusal : HoldsPlan ceiling h (plan_in r after) → (refusal : Refusal) → Answers (under ceiling h) ws before' after' (Err refusal) → ⊥
+  kept_refusal holds refusal a =
+      let both = call_under h ws before after r answers ceiling holds before' after' (Err refusal) lengths a in
+      let e = both.0 in let z : ◌≡◌ {A = ℕ} 0 1 = cc in absurd (omega arith)
+
+  -- the definition gives a plan there
+  kept_number : HoldsPlan ceiling h (plan_in r after) → (n : ℕ) → n ≡ number_of (outcome_in (plan_of (under ceiling h) ws (lengths_of before'))) → n ≡ 0
+  kept_number holds n e =
+      let found = planned_pads (plan_of h ws (lengths_of before)) before after r answers.answer answers.held in
+      let p = found.0 in
+      let there = same_plan h ws (lengths_of before) p found.1 ceiling (record {
+        least = holds.least;
+        most = holds.most;
+        max_below = holds.max_below;
+        sizes_below = λ c. subst (λ (n : ℕ). n < ceiling) (zeroed_at p.sizes after.sizes c found.2.sizes) (holds.sizes_below c);
+      }) in
+      e ∙ ap (λ (x : Result). number_of (outcome_in x)) (ap (plan_of (under ceiling h) ws) lengths ∙ there)
+
+  -- and where a call gives a plan, its ceiling holds this one
+  other_holds : (r' : ActiveComponentPlan) → Answers (under ceiling h) ws before' after' (Ok r') → HoldsPlan ceiling h (plan_in r after)
+  other_holds r' a =
+      let l = lengths_of before in
+      let found = planned_pads (plan_of h ws l) before after r answers.answer answers.held in
+      let other = planned_pads (plan_of (under ceiling h) ws (lengths_of before')) before' after' r' a.answer a.held in
+      let both = no_other h ws l found.0 found.1 ceiling other.0 (sym (ap (plan_of (under ceiling h) ws) lengths) ∙ other.1) in record {
+        least = both.1.least;
+        most = both.1.most;
+        max_below = both.1.max_below;
+        sizes_below = λ c. subst (λ (n : ℕ). n < ceiling) (sym (zeroed_at (found.0).sizes after.sizes c found.2.sizes)) (both.1.sizes_below c);
+      }
+
+-- a call under a ceiling that holds a plan does not refuse
+pub none_refused : (h : Head) (ws : List ℕ) (before after before' after' : Buffers) (ceiling : ℕ) → lengths_of before' ≡ lengths_of before → (r : ActiveComponentPlan)
+    → Answers h ws before after (Ok r) → HoldsPlan ceiling h (plan_in r after) → Leaves (under ceiling h) ws before' after' None → ⊥
+none_refused h ws before after before' after' ceiling lengths r answers holds (Leaves.refusal x a) = kept_refusal h ws before after before' after' ceiling lengths r answers holds x a
+none_refused h ws before after before' after' ceiling lengths r answers holds (Leaves.number res words n some a) =
+    let z = kept_number h ws before after before' after' ceiling lengths r answers holds n a.number in absurd (omega arith)
+
+pub kept : PlanIsKept
+kept h ws before after before' after' p None ceiling lengths leaves holds other =
+    let s = said h ws before after p leaves in
+    absurd (none_refused h ws before after before' after' ceiling lengths s.answer s.answers (subst (HoldsPlan ceiling h) (sym s.same) holds) other)
+kept h ws before after before' after' p (Some q) ceiling lengths leaves holds other =
+    let s = said h ws before after p leaves in
+    let t = said (under ceiling h) ws before' after' q other in
+    let here = subst (HoldsPlan ceiling h) (sym s.same) holds in
+    ap Some (sym t.same ∙ kept_answer h ws before after before' after' ceiling lengths s.answer s.answers here t.answer t.answers ∙ s.same)
+
+pub no_other_plan : NoOtherPlan
+no_other_plan h ws before after before' after' p q ceiling lengths leaves other =
+    let s = said h ws before after p leaves in
+    let t = said (under ceiling h) ws before' after' q other in
+    let here = other_holds h ws before after before' after' ceiling lengths s.answer s.answers t.answer t.answers in (
+      sym t.same ∙ kept_answer h ws before after before' after' ceiling lengths s.answer s.answers here t.answer t.answers ∙ s.same,
+      subst (HoldsPlan ceiling h) s.same here,
+    )
+
+-- ---- rows, files, lists
+
+pub rows : RowsAreRead
+rows h ws before after p leaves read i below =
+    let s = said h ws before after p leaves in planned_back h ws before after s.answer s.answers (read_head h read.wide read.no_values) i below
+
+pub stored : StoredIsReadBack
+stored = call_written
+
+pub one_file : FileIsOne
+one_file = file_is
+
+pub one_program : PlanIsOne
+one_program h h' ws ws' before before' p q small small' e e' = same_file h ws (lengths_of before) p small e h' ws' (lengths_of before') q small' e'
+
+pub lists : ListIsKept
+lists = left
