@@ -1,9 +1,9 @@
 -- What an answer says, the code's and the definition's: the values of a plan's fields, or the refusal.
 use Rattle.std.specs.Prelude.{ℕ, length, Bool, Float, Result as Answered, Ok, Err}
-use Rattle.definition.specs.WholeWorks.{WholeWorks}
-use Rattle.definition.specs.Plan.{Plan, Result, planned, refused_at}
-use Rattle.tally.specs.Tally.{works_of}
-use Rattle.outputs.specs.declared.WordCounts.{WordCounts}
+use Rattle.plan_spec.specs.WholeWorks.{WholeWorks}
+use Rattle.plan_spec.specs.Plan.{Plan, Result, planned, refused_at}
+use Rattle.work_sums.specs.Tally.{works_of}
+use Rattle.plan_buffers.specs.declared.WordCounts.{WordCounts}
 use Rattle.refusals.specs.Numbers.{number_of}
 use Rattle.refusals.specs.declared.Refusal.{Refusal}
 use Rattle.answer.specs.declared.ActiveComponentPlan.{ActiveComponentPlan}

@@ -4,14 +4,14 @@
 
 ghost use Rattle.std.specs.Prelude.{◌≡◌, false, pos, ◌*◌, Ok};
 ghost use Rattle.std.specs.Float.{fin};
-ghost use Rattle.definition.specs.WholeWorks.{whole_works_of};
-ghost use Rattle.definition.specs.Plan.{chosen};
+ghost use Rattle.plan_spec.specs.WholeWorks.{whole_works_of};
+ghost use Rattle.plan_spec.specs.Plan.{chosen};
 ghost use Rattle.lent.specs.Lent.{UsedFit};
 ghost use Rattle.answer.specs.Outcome.{accepted, outcome_of};
 
 use lent::choose;
-use outputs::WordCounts;
-use tally::WholeWorks;
+use plan_buffers::WordCounts;
+use work_sums::WholeWorks;
 use walk::Summary;
 
 // The scalar fields of a plan, its works as whole numbers, and how many words of the first six outputs it uses.

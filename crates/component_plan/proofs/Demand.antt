@@ -10,23 +10,23 @@ use lib.Ieee.{Float}
 use Rattle.records.specs.Record.{kind, sine, cosine, record_at, instructions_of}
 use Rattle.records.specs.Sound.{UnitPair}
 use Rattle.records.specs.declared.Head.{Head}
-use Rattle.definition.specs.WholeWorks.{WholeWorks}
-use Rattle.definition.specs.Plan.{Lengths, Plan, Result, planned, refused_at, plan_of, padded}
-use Rattle.definition.specs.Connectivity.{Connected, replay_after}
-use Rattle.definition.specs.Sources.{SourcesListed}
-use Rattle.definition.specs.Groups.{GroupsListed}
-use Rattle.definition.specs.Laws.{Agree, TooWideExactly, HasDimensions, under, HoldsPlan}
-use Rattle.definition.proofs.Accepted.{accepted}
-use Rattle.definition.proofs.Squares.{rotation_squares}
-use Rattle.definition.proofs.Connected.{read_head, connected}
-use Rattle.definition.proofs.Padded.{Pads, zeroed_at, connected_padded}
-use Rattle.definition.proofs.Listed.{listed_padded}
-use Rattle.definition.proofs.Groups.{groups_padded}
-use Rattle.definition.proofs.WholeWorks.{works_agree, too_wide_exactly}
-use Rattle.definition.proofs.Under.{plan_dimensions, dimensions_padded, same_plan}
-use Rattle.tally.specs.Tally.{works_of}
-use Rattle.outputs.specs.declared.WordCounts.{WordCounts}
-use Rattle.outputs.specs.Outputs.{Buffers, lengths_of}
+use Rattle.plan_spec.specs.WholeWorks.{WholeWorks}
+use Rattle.plan_spec.specs.Plan.{Lengths, Plan, Result, planned, refused_at, plan_of, padded}
+use Rattle.plan_spec.specs.Connectivity.{Connected, replay_after}
+use Rattle.plan_spec.specs.Sources.{SourcesListed}
+use Rattle.plan_spec.specs.Groups.{GroupsListed}
+use Rattle.plan_spec.specs.Laws.{Agree, TooWideExactly, HasDimensions, under, HoldsPlan}
+use Rattle.plan_spec.proofs.Accepted.{accepted}
+use Rattle.plan_spec.proofs.Squares.{rotation_squares}
+use Rattle.plan_spec.proofs.Connected.{read_head, connected}
+use Rattle.plan_spec.proofs.Padded.{Pads, zeroed_at, connected_padded}
+use Rattle.plan_spec.proofs.Listed.{listed_padded}
+use Rattle.plan_spec.proofs.Groups.{groups_padded}
+use Rattle.plan_spec.proofs.WholeWorks.{works_agree, too_wide_exactly}
+use Rattle.plan_spec.proofs.Under.{plan_dimensions, dimensions_padded, same_plan}
+use Rattle.work_sums.specs.Tally.{works_of}
+use Rattle.plan_buffers.specs.declared.WordCounts.{WordCounts}
+use Rattle.plan_buffers.specs.Outputs.{Buffers, lengths_of}
 use Rattle.answer.specs.declared.ActiveComponentPlan.{ActiveComponentPlan}
 use Rattle.refusals.specs.declared.Refusal.{Refusal}
 use Rattle.lent.specs.Lent.{Held}

@@ -12,19 +12,19 @@ use borrow.Author.Tests.{ltb-false}
 use lib.Seq.{take-append-le, take-length}
 use Rattle.records.specs.Record.{instructions_of}
 use Rattle.records.proofs.Laws.{instructions_length}
-use Rattle.definition.specs.Lists.{concat}
-use Rattle.definition.specs.WholeWorks.{WholeSums, too_wide, quotient_of, whole_works_of}
-use Rattle.definition.specs.Walk.{Walk, start}
-use Rattle.definition.specs.Plan.{planned, plan_from, padded, groups_of}
-use Rattle.definition.proofs.Steps.{Run}
-use Rattle.definition.proofs.Growth.{run_rotations, run_measurements, start_wide, length_concat}
-use Rattle.definition.proofs.WholeWorks.{reached_exactly}
-use Rattle.definition.proofs.Room.{longest_count, steps_count, rows_most}
+use Rattle.plan_spec.specs.Lists.{concat}
+use Rattle.plan_spec.specs.WholeWorks.{WholeSums, too_wide, quotient_of, whole_works_of}
+use Rattle.plan_spec.specs.Walk.{Walk, start}
+use Rattle.plan_spec.specs.Plan.{planned, plan_from, padded, groups_of}
+use Rattle.plan_spec.proofs.Steps.{Run}
+use Rattle.plan_spec.proofs.Growth.{run_rotations, run_measurements, start_wide, length_concat}
+use Rattle.plan_spec.proofs.WholeWorks.{reached_exactly}
+use Rattle.plan_spec.proofs.Room.{longest_count, steps_count, rows_most}
 use Rattle.walk.specs.declared.Summary.{Summary}
-use Rattle.outputs.specs.Outputs.{Buffers, SameLengths}
+use Rattle.plan_buffers.specs.Outputs.{Buffers, SameLengths}
 use Rattle.walk.specs.Walking.{Begins, Ended}
 use Rattle.lent.specs.Lent.{Held, RestCleared, UsedFit, cleared_from}
-use Rattle.outputs.specs.declared.WordCounts.{WordCounts}
+use Rattle.plan_buffers.specs.declared.WordCounts.{WordCounts}
 use Rattle.answer.specs.Outcome.{used_in}
 
 -- one buffer of m words: ws stand in front, n of them, and what follows is zeroed

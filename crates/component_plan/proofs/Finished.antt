@@ -9,14 +9,14 @@ use lib.ListN.{length, take, get_or}
 use Rattle.records.specs.Record.{instructions_of}
 use Rattle.records.specs.Pass.{Passed, record_pass}
 use Rattle.records.specs.declared.Head.{Head}
-use Rattle.definition.specs.Components.{allocated_for}
-use Rattle.definition.specs.WholeWorks.{whole_works_of}
-use Rattle.definition.specs.Walk.{Walk, finished, start, walk_from}
-use Rattle.definition.specs.Plan.{planned, chosen, plan_from, plan_read, buffers_refused, after_walk}
-use Rattle.definition.proofs.Steps.{Run, run_of_walk}
-use Rattle.definition.proofs.Sizes.{reached_longest}
-use Rattle.outputs.specs.Buffers.{AllBelow}
-use Rattle.outputs.specs.Outputs.{Buffers, lengths_of, SameLengths}
+use Rattle.plan_spec.specs.Components.{allocated_for}
+use Rattle.plan_spec.specs.WholeWorks.{whole_works_of}
+use Rattle.plan_spec.specs.Walk.{Walk, finished, start, walk_from}
+use Rattle.plan_spec.specs.Plan.{planned, chosen, plan_from, plan_read, buffers_refused, after_walk}
+use Rattle.plan_spec.proofs.Steps.{Run, run_of_walk}
+use Rattle.plan_spec.proofs.Sizes.{reached_longest}
+use Rattle.plan_buffers.specs.Buffers.{AllBelow}
+use Rattle.plan_buffers.specs.Outputs.{Buffers, lengths_of, SameLengths}
 use Rattle.walk.specs.declared.Summary.{Summary}
 use Rattle.walk.specs.Walking.{Walkable, Ended, WalkEnds}
 use Rattle.lent.specs.Lent.{Held, RestCleared, UsedFit, lent_number}

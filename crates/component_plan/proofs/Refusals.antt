@@ -18,18 +18,18 @@ use Rattle.refusals.specs.declared.Refusal.{Refusal}
 use Rattle.refusals.proofs.Laws.{err_is}
 use Rattle.records.specs.Pass.{Checked, record_pass}
 use Rattle.records.specs.declared.Head.{Head}
-use Rattle.definition.specs.Components.{allocated_for}
-use Rattle.definition.specs.WholeWorks.{WholeWorks, whole_works_of}
-use Rattle.definition.specs.Walk.{Walk, Walked, finished, stopped}
-use Rattle.definition.specs.Plan.{Lengths, Plan, Result, planned, refused_at, chosen, unread, unread_plan, plan_from, words_refused, buffers_refused, refuse_all, after_pass, plan_read, for_dense_peak, ceiling_refused, plan_of, held_after}
-use Rattle.definition.proofs.Steps.{cond_yes, cond_no}
-use Rattle.tally.specs.declared.WholeWorks.TheVariants as Whole
+use Rattle.plan_spec.specs.Components.{allocated_for}
+use Rattle.plan_spec.specs.WholeWorks.{WholeWorks, whole_works_of}
+use Rattle.plan_spec.specs.Walk.{Walk, Walked, finished, stopped}
+use Rattle.plan_spec.specs.Plan.{Lengths, Plan, Result, planned, refused_at, chosen, unread, unread_plan, plan_from, words_refused, buffers_refused, refuse_all, after_pass, plan_read, for_dense_peak, ceiling_refused, plan_of, held_after}
+use Rattle.plan_spec.proofs.Steps.{cond_yes, cond_no}
+use Rattle.work_sums.specs.declared.WholeWorks.TheVariants as Whole
 use Rattle.answer.specs.declared.ActiveComponentPlan.{ActiveComponentPlan}
 use Rattle.walk.specs.declared.Summary.{Summary}
-use Rattle.outputs.specs.Outputs.{Buffers, lengths_of, SameLengths}
+use Rattle.plan_buffers.specs.Outputs.{Buffers, lengths_of, SameLengths}
 use Rattle.walk.specs.Walking.{Ended, WalkEnds}
 use Rattle.lent.specs.Lent.{peak_answer, head_answer, Held, lent_number}
-use Rattle.outputs.specs.declared.WordCounts.{WordCounts}
+use Rattle.plan_buffers.specs.declared.WordCounts.{WordCounts}
 use Rattle.answer.specs.Outcome.{accepted, turned_away, outcome_of, used_in, outcome_in}
 use Rattle.component_plan.specs.Answer.{Answers, Filled}
 

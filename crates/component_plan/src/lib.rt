@@ -2,16 +2,16 @@
 #![tactic(auto)]
 
 ghost use Rattle.std.specs.Prelude.{◌≡◌, ◌≤◌, length, take};
-ghost use Rattle.definition.specs.Components.{allocated_for};
-ghost use Rattle.outputs.specs.Buffers.{AllBelow};
-ghost use Rattle.outputs.specs.Outputs.{buffers_of};
-ghost use Rattle.outputs.specs.Stored.{SameOutputs};
+ghost use Rattle.plan_spec.specs.Components.{allocated_for};
+ghost use Rattle.plan_buffers.specs.Buffers.{AllBelow};
+ghost use Rattle.plan_buffers.specs.Outputs.{buffers_of};
+ghost use Rattle.plan_buffers.specs.Stored.{SameOutputs};
 ghost use Rattle.component_plan.specs.Answer.{Answers, ReadAnswers, HeadAnswers};
 
 use answer::{ActiveComponentPlan, plan_of, unread_plan};
 use lent::{buffers_short, check_lent, clear_all, clear_rest, dense_peak};
-use outputs::StoredOutputs;
-use outputs::buffers::allocated;
+use plan_buffers::StoredOutputs;
+use plan_buffers::buffers::allocated;
 use records::{Head, check_records};
 use refusals::Refusal;
 use walk::walk;

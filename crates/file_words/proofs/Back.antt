@@ -6,7 +6,7 @@ use Prim.Native.Nat.{ℕ, zero, suc, ◌+◌, ◌*◌, ◌/◌, ◌%◌, ◌^◌
 use native.Mathlib.Omega.{arith}
 use lib.ListN.{length, get_or, take, drop, length-drop}
 use lib.Seq.{take-add, take_at, drop-drop, drop-cons, length-take-le}
-use Rattle.definition.specs.Laws.{Words}
+use Rattle.plan_spec.specs.Laws.{Words}
 use Rattle.file_words.specs.Words.{bytes_of, word_bytes, number_of, word_at, words_at}
 use Rattle.file_words.specs.Laws.{Bytes}
 

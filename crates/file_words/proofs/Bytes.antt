@@ -12,8 +12,8 @@ use Rattle.std.specs.Int.{bytes_low_first, to_le_bytes}
 use borrow.Rule.Slice.PartMut.{put_mid}
 use lib.ListN.{length, get_or, take, drop, length-append, length-drop}
 use lib.Seq.{take-suc, take_at, drop-drop, drop-append-add, length-take-le}
-use Rattle.definition.specs.Lists.{numbers_from}
-use Rattle.outputs.specs.Buffers.{patch}
+use Rattle.plan_spec.specs.Lists.{numbers_from}
+use Rattle.plan_buffers.specs.Buffers.{patch}
 use Rattle.file_words.specs.Words.{bytes_of, word_bytes, word_at, words_at}
 
 -- ---- words that are read one after the other

@@ -2,7 +2,7 @@
 #![tactic(auto)]
 
 ghost use Rattle.std.specs.Prelude.{◌≡◌, ◌+◌, ◌*◌, ◌≤◌, length};
-ghost use Rattle.outputs.specs.Buffers.{patch};
+ghost use Rattle.plan_buffers.specs.Buffers.{patch};
 ghost use Rattle.file_words.specs.Words.{word_bytes, word_at, words_at};
 
 // Writes words into a file, the first as word number `at`.

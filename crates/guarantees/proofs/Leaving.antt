@@ -12,16 +12,16 @@ use Rattle.std.proofs.lemmas.List.{get_or-map}
 use lib.Ieee.{binary64, fits, of_bits}
 use lib.Ieee.Bits.{of_bits-to_bits}
 use Rattle.records.specs.declared.Head.{Head}
-use Rattle.definition.specs.Lists.{numbers_from}
-use Rattle.definition.specs.WholeWorks.{WholeWorks, too_wide, without_quotient, with_quotient, whole_words}
-use Rattle.definition.specs.Walk.{flag_word}
-use Rattle.definition.specs.Plan.{Lengths, Plan, Result, planned, refused_at, plan_of}
-use Rattle.definition.proofs.Counting.{length-numbers, numbers_at}
-use Rattle.definition.proofs.Words.{works_fit}
-use Rattle.tally.specs.Tally.{works_of}
-use Rattle.tally.specs.declared.WholeWorks as Declared
-use Rattle.tally.specs.declared.WholeWorks.TheVariants as W
-use Rattle.outputs.specs.Outputs.{Buffers, lengths_of}
+use Rattle.plan_spec.specs.Lists.{numbers_from}
+use Rattle.plan_spec.specs.WholeWorks.{WholeWorks, too_wide, without_quotient, with_quotient, whole_words}
+use Rattle.plan_spec.specs.Walk.{flag_word}
+use Rattle.plan_spec.specs.Plan.{Lengths, Plan, Result, planned, refused_at, plan_of}
+use Rattle.plan_spec.proofs.Counting.{length-numbers, numbers_at}
+use Rattle.plan_spec.proofs.Words.{works_fit}
+use Rattle.work_sums.specs.Tally.{works_of}
+use Rattle.work_sums.specs.declared.WholeWorks as Declared
+use Rattle.work_sums.specs.declared.WholeWorks.TheVariants as W
+use Rattle.plan_buffers.specs.Outputs.{Buffers, lengths_of}
 use Rattle.answer.specs.declared.ActiveComponentPlan.{ActiveComponentPlan}
 use Rattle.answer.specs.Outcome.{accepted, used_in, outcome_of, outcome_in}
 use Rattle.component_plan.specs.Answer.{Answers}

@@ -12,9 +12,9 @@ use Rattle.records.specs.Record.{instructions_of}
 use Rattle.records.specs.Pass.{Checked, Passed, Refused, record_pass}
 use Rattle.records.specs.declared.Head.{Head}
 use Rattle.records.proofs.Laws.{refused_in}
-use Rattle.definition.specs.Walk.{Walked, finished, stopped, start, walk_from}
-use Rattle.definition.specs.Plan.{Lengths, Plan, Result, planned, refused_at, unread, words_refused, buffers_refused, after_walk, after_pass, refuse_all, plan_read, max_dimension, for_dense_peak, ceiling_refused, plan_of}
-use Rattle.definition.proofs.Growth.{stopped_index}
+use Rattle.plan_spec.specs.Walk.{Walked, finished, stopped, start, walk_from}
+use Rattle.plan_spec.specs.Plan.{Lengths, Plan, Result, planned, refused_at, unread, words_refused, buffers_refused, after_walk, after_pass, refuse_all, plan_read, max_dimension, for_dense_peak, ceiling_refused, plan_of}
+use Rattle.plan_spec.proofs.Growth.{stopped_index}
 
 -- a refusal has a number
 abbrev Numbered : Result → Type 0

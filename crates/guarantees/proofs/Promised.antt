@@ -8,16 +8,16 @@ use lib.ListN.{length}
 use Rattle.records.specs.Record.{instructions_of}
 use Rattle.records.specs.declared.Head.{Head}
 use Rattle.refusals.specs.declared.Refusal.{Refusal}
-use Rattle.definition.specs.Plan.{Plan, Result, planned, plan_of}
-use Rattle.definition.specs.Connectivity.{Connected, replay_after}
-use Rattle.definition.specs.Sources.{SourcesListed}
-use Rattle.definition.specs.Groups.{GroupsListed}
-use Rattle.definition.specs.Laws.{Agree, TooWideExactly, HasDimensions, under, HoldsPlan}
-use Rattle.definition.proofs.Connected.{read_head}
-use Rattle.definition.proofs.Padded.{zeroed_at}
-use Rattle.definition.proofs.Under.{same_plan, no_other}
-use Rattle.outputs.specs.Outputs.{Buffers, lengths_of}
-use Rattle.outputs.specs.declared.WordCounts.{WordCounts}
+use Rattle.plan_spec.specs.Plan.{Plan, Result, planned, plan_of}
+use Rattle.plan_spec.specs.Connectivity.{Connected, replay_after}
+use Rattle.plan_spec.specs.Sources.{SourcesListed}
+use Rattle.plan_spec.specs.Groups.{GroupsListed}
+use Rattle.plan_spec.specs.Laws.{Agree, TooWideExactly, HasDimensions, under, HoldsPlan}
+use Rattle.plan_spec.proofs.Connected.{read_head}
+use Rattle.plan_spec.proofs.Padded.{zeroed_at}
+use Rattle.plan_spec.proofs.Under.{same_plan, no_other}
+use Rattle.plan_buffers.specs.Outputs.{Buffers, lengths_of}
+use Rattle.plan_buffers.specs.declared.WordCounts.{WordCounts}
 use Rattle.answer.specs.declared.ActiveComponentPlan.{ActiveComponentPlan}
 use Rattle.answer.specs.Outcome.{used_in, outcome_of, outcome_in}
 use Rattle.component_plan.specs.Answer.{Answers}

@@ -4,9 +4,9 @@ use Rattle.std.specs.Float.{binary64}
 use Rattle.std.specs.Float.Ieee.{of_bits}
 use Rattle.refusals.specs.declared.Refusal.{Refusal}
 use Rattle.records.specs.declared.Head.{Head}
-use Rattle.definition.specs.WholeWorks.{WholeWorks, too_wide, without_quotient, with_quotient}
-use Rattle.definition.specs.Plan.{Plan}
-use Rattle.outputs.specs.Outputs.{Buffers}
+use Rattle.plan_spec.specs.WholeWorks.{WholeWorks, too_wide, without_quotient, with_quotient}
+use Rattle.plan_spec.specs.Plan.{Plan}
+use Rattle.plan_buffers.specs.Outputs.{Buffers}
 use Rattle.answer.specs.declared.ActiveComponentPlan.{ActiveComponentPlan}
 use Rattle.component_plan.specs.Answer.{Answers}
 use Rattle.component_plan.specs.Demand.{plan_in}

@@ -5,14 +5,14 @@ use Rattle.records.specs.Record.{kind, sine, cosine, record_at, instructions_of}
 use Rattle.records.specs.Sound.{UnitPair}
 use Rattle.records.specs.declared.Head.{Head}
 use Rattle.records.specs.declared.Instruction.TheVariants.{DormantBranch}
-use Rattle.definition.specs.Walk.{Walk, start, finished, walk_from}
-use Rattle.definition.specs.Plan.{Plan, planned, plan_of}
-use Rattle.definition.specs.Connectivity.{Connected, replay_after}
-use Rattle.definition.specs.Sources.{SourcesListed}
-use Rattle.definition.specs.Groups.{GroupsListed}
-use Rattle.definition.specs.Laws.{Agree, TooWideExactly, HasDimensions, under, HoldsPlan}
-use Rattle.outputs.specs.Outputs.{Buffers, lengths_of}
-use Rattle.outputs.specs.declared.WordCounts.{WordCounts}
+use Rattle.plan_spec.specs.Walk.{Walk, start, finished, walk_from}
+use Rattle.plan_spec.specs.Plan.{Plan, planned, plan_of}
+use Rattle.plan_spec.specs.Connectivity.{Connected, replay_after}
+use Rattle.plan_spec.specs.Sources.{SourcesListed}
+use Rattle.plan_spec.specs.Groups.{GroupsListed}
+use Rattle.plan_spec.specs.Laws.{Agree, TooWideExactly, HasDimensions, under, HoldsPlan}
+use Rattle.plan_buffers.specs.Outputs.{Buffers, lengths_of}
+use Rattle.plan_buffers.specs.declared.WordCounts.{WordCounts}
 use Rattle.readers.specs.Back.{GivenBack}
 use Rattle.file_words.specs.Laws.{Bytes}
 use Rattle.stored_plan.specs.Stored.{Kept, bytes_of, file_of}

@@ -2,8 +2,8 @@
 use Rattle.std.specs.Prelude.{◌≡◌, ℕ, ◌-◌, ◌*◌, ◌%◌, ◌^◌, ◌<◌, Bool, not, ◌||◌, List, ◌++◌, length, take, replicate, ◌==◌, nat_lt, Option, Some, None, if◌then◌else◌}
 use Rattle.refusals.specs.Answer.{Answer, given, refused}
 use Rattle.records.specs.declared.Head.{Head}
-use Rattle.definition.specs.Plan.{Result, held_after, max_dimension, ceiling_refused}
-use Rattle.outputs.specs.Outputs.{Buffers}
+use Rattle.plan_spec.specs.Plan.{Result, held_after, max_dimension, ceiling_refused}
+use Rattle.plan_buffers.specs.Outputs.{Buffers}
 use Rattle.walk.specs.declared.Summary.{Summary}
 
 -- 1: "max_k >= 62", which is the ceiling since 02's CR 4; else the dense peak

@@ -4,14 +4,14 @@
 
 ghost use Rattle.std.specs.Prelude.{◌≡◌, ◌^◌, ◌<◌};
 ghost use Rattle.refusals.specs.Answer.{answer_of, number_or_0};
-ghost use Rattle.definition.specs.Plan.{chosen, buffers_refused, refused_at};
-ghost use Rattle.outputs.specs.Outputs.{buffers_of, lengths_of};
-ghost use Rattle.outputs.specs.Stored.{SameOutputs};
+ghost use Rattle.plan_spec.specs.Plan.{chosen, buffers_refused, refused_at};
+ghost use Rattle.plan_buffers.specs.Outputs.{buffers_of, lengths_of};
+ghost use Rattle.plan_buffers.specs.Stored.{SameOutputs};
 ghost use Rattle.lent.specs.Lent.{head_answer, Held, lent_number, UsedFit, RestCleared};
 
 use kernels::bits::active_length;
-use outputs::buffers::fill_from;
-use outputs::{StoredOutputs, WordCounts};
+use plan_buffers::buffers::fill_from;
+use plan_buffers::{StoredOutputs, WordCounts};
 use records::Head;
 use refusals::Reason;
 use walk::Summary;

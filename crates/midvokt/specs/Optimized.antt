@@ -1,6 +1,6 @@
 -- What the contract of `midvokt_optimize` says: what it returns, the words of `result`, and the lent list and map, for 02's definition, CR 6.
 use Rattle.std.specs.Prelude.{ℕ, ◌≡◌, List, [], ◌∷◌, length}
-use Rattle.passes.specs.Optimizing.{outcome_of}
+use Rattle.optimizer_spec.specs.Optimizing.{outcome_of}
 use Rattle.optimizer.specs.Answer.{Told, counted, turned_away, told_in, list_in, map_in}
 use Rattle.midvokt.specs.Reply.{laid_out}
 

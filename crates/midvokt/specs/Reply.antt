@@ -3,11 +3,11 @@ use Rattle.std.specs.Prelude.{ℕ, ◌≡◌, List, [], ◌∷◌, map, length, 
 use Rattle.refusals.specs.Numbers as Reasons
 use Rattle.refusals.specs.declared.Refusal.{Refusal}
 use Rattle.records.specs.declared.Head.{Head}
-use Rattle.definition.specs.Lists.{numbers_from}
-use Rattle.definition.specs.WholeWorks.{whole_words}
-use Rattle.definition.specs.Walk.{flag_word, bits_word}
-use Rattle.definition.specs.Plan.{plan_of}
-use Rattle.outputs.specs.Outputs.{Buffers, lengths_of}
+use Rattle.plan_spec.specs.Lists.{numbers_from}
+use Rattle.plan_spec.specs.WholeWorks.{whole_words}
+use Rattle.plan_spec.specs.Walk.{flag_word, bits_word}
+use Rattle.plan_spec.specs.Plan.{plan_of}
+use Rattle.plan_buffers.specs.Outputs.{Buffers, lengths_of}
 use Rattle.lent.specs.Lent.{Held}
 use Rattle.answer.specs.Outcome.{Outcome, accepted, turned_away, outcome_in}
 

@@ -1,14 +1,14 @@
 -- What the contracts of `midvokt_store` and `midvokt_load` say: what they return, the words of `result`, the buffers and the file, for 02's definition, CR 2.
 use Rattle.std.specs.Prelude.{ℕ, ◌≡◌, List, [], ◌∷◌, ◌++◌, length, replicate}
 use Rattle.records.specs.declared.Head.{Head}
-use Rattle.definition.specs.Plan.{held_after}
-use Rattle.outputs.specs.Outputs.{Buffers, lengths_of}
+use Rattle.plan_spec.specs.Plan.{held_after}
+use Rattle.plan_buffers.specs.Outputs.{Buffers, lengths_of}
 use Rattle.lent.specs.Lent.{Held}
 use Rattle.stored_plan.specs.Stored.{file_of}
 use Rattle.stored_plan.specs.Reading.{read_file}
 use Rattle.stored_plan.specs.Loading as Loading
-use Rattle.outputs.specs.Stored as Six
-use Rattle.outputs.specs.Stored.{Outputs}
+use Rattle.plan_buffers.specs.Stored as Six
+use Rattle.plan_buffers.specs.Stored.{Outputs}
 use Rattle.stored_plan.specs.Loading.{Restored}
 use Rattle.store.specs.Storing as Storing
 use Rattle.store.specs.Storing.{store_of}

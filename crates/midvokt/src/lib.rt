@@ -6,19 +6,19 @@ pub mod optimizing;
 pub mod stored;
 
 ghost use Rattle.std.specs.Prelude.{◌≡◌, length, Ok};
-ghost use Rattle.definition.specs.WholeWorks.{whole_words};
-ghost use Rattle.tally.specs.Tally.{works_of};
+ghost use Rattle.plan_spec.specs.WholeWorks.{whole_words};
+ghost use Rattle.work_sums.specs.Tally.{works_of};
 ghost use Rattle.answer.specs.Outcome.{outcome_of};
 ghost use Rattle.midvokt.specs.Reply.{Replies, number_in, words_of, laid_out};
 
 use answer::ActiveComponentPlan;
 use component_plan::build_active_component_plan;
-use outputs::StoredOutputs;
-use outputs::buffers::fill_from;
+use plan_buffers::StoredOutputs;
+use plan_buffers::buffers::fill_from;
 use plan_file::scalar_words;
 use records::Head;
 use refusals::Refusal;
-use tally::WholeWorks;
+use work_sums::WholeWorks;
 
 // 0 for an answer, and else the refusal's number.
 // Kept: what C's calls return is a plain number.

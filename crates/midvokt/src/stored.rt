@@ -5,7 +5,7 @@ ghost use Rattle.store.specs.Storing as Storing;
 ghost use Rattle.midvokt.specs.Stored.{store_words, StoreReplies, load_words, LoadReplies};
 
 use crate::{lay_out, reply_number};
-use outputs::StoredOutputs;
+use plan_buffers::StoredOutputs;
 use records::Head;
 use refusals::{Reason, Refusal};
 use store::store;

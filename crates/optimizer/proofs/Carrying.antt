@@ -8,7 +8,7 @@ use borrow.Author.Tests.{eqb-true}
 use mathlib.Core.Path.{◌∙◌, ap₂, subst}
 use Rattle.std.proofs.lemmas.List.{get_or-set_other}
 use Rattle.pending.specs.Operation.{Operation, kind, strings_commute, same_string, conditions_of, y_count, whole_sign}
-use Rattle.passes.specs.Passes.{Placed, placed, same_words, fused_angle, can_cross, can_fuse, cancels, fused, Carried, stays, meets, behind, meeting, carry}
+use Rattle.optimizer_spec.specs.Passes.{Placed, placed, same_words, fused_angle, can_cross, can_fuse, cancels, fused, Carried, stays, meets, behind, meeting, carry}
 use Rattle.optimizer.specs.Working.{bare, marked, is_marked, live, partner_from, met}
 
 -- a part of the operations, with their places or without

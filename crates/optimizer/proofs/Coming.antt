@@ -8,8 +8,8 @@ use Rattle.std.proofs.lemmas.List.{append-nil, append_assoc, length-append, take
 use Rattle.std.proofs.lemmas.List.Sums.{sum_by-append, sum_by_push}
 use Rattle.std.proofs.lemmas.Grind.{flat_map-append}
 use Rattle.pending.specs.Operation.{Operation}
-use Rattle.passes.specs.Passes.{Placed, Pair, Segment, segment_of}
-use Rattle.passes.specs.Optimizing.{placed_from, ends_of, segments, segments_of, no_boundary, boundary, mapped, operations_in, pairs_in}
+use Rattle.optimizer_spec.specs.Passes.{Placed, Pair, Segment, segment_of}
+use Rattle.optimizer_spec.specs.Optimizing.{placed_from, ends_of, segments, segments_of, no_boundary, boundary, mapped, operations_in, pairs_in}
 use Rattle.optimizer.specs.declared.segments.Segment as Declared
 use Rattle.optimizer.specs.declared.segments.Progress.{Progress}
 use Rattle.optimizer.proofs.Carrying.{bare_drop}

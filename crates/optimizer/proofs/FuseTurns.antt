@@ -6,7 +6,7 @@ use mathlib.Core.Path.{◌∙◌, subst}
 use Rattle.std.proofs.lemmas.List.{append-nil, append_assoc, length-set, drop_more, drop_all, drop-set-lt, drop-set-add, take-set-le, take_more_set, get_or-drop}
 use Rattle.std.proofs.lemmas.List.Sums.{sum_by-cons}
 use Rattle.pending.specs.Operation.{Operation, is_rotation}
-use Rattle.passes.specs.Passes.{Placed, cancels, Carried, stays, carry, Pair, Fused, keeping, pairing, carried, fuse}
+use Rattle.optimizer_spec.specs.Passes.{Placed, cancels, Carried, stays, carry, Pair, Fused, keeping, pairing, carried, fuse}
 use Rattle.optimizer.specs.Working.{bare, cancellations, is_marked, live, partner_of, partner_from, met, Fusing, fuse_on, fuse_turn, turns}
 use Rattle.optimizer.proofs.Carrying.{Together, both_stay, both_meet, together, leaves, lives}
 

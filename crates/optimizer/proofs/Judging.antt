@@ -6,7 +6,7 @@ use borrow.Author.Tests.{eqb-true, leb-true, ltb-true}
 use mathlib.Core.Path.{◌∙◌}
 use Rattle.pending.specs.Operation.{operations_of, is_expectation}
 use Rattle.pending.specs.Form.{form_fits}
-use Rattle.passes.specs.Optimizing.{Outcome, optimized, refuse, refuse_at, as_it_is, in_segments, is_odd_rotation, outcome_of}
+use Rattle.optimizer_spec.specs.Optimizing.{Outcome, optimized, refuse, refuse_at, as_it_is, in_segments, is_odd_rotation, outcome_of}
 use Rattle.optimizer.specs.declared.checks.Verdict.{Verdict}
 use Rattle.optimizer.proofs.Laws.{both_front, both_behind}
 use Rattle.optimizer.specs.Answer.{PrefixesInside, Sound}

@@ -6,7 +6,7 @@ use mathlib.Core.Path.{◌∙◌, ap₂}
 use Rattle.std.proofs.lemmas.List.{drop_more, drop_all}
 use Rattle.std.specs.Prelude.{◌%◌, Float, None}
 use Rattle.pending.specs.Operation.{Operation, y_count, whole_sign}
-use Rattle.passes.specs.Passes.{same_words, fused_angle, cancels, fused}
+use Rattle.optimizer_spec.specs.Passes.{same_words, fused_angle, cancels, fused}
 use Rattle.optimizer.specs.Working.{partner_from, rewritten, met, turns}
 
 -- two runs from place i on: these two words, and those behind

@@ -9,11 +9,11 @@ use Rattle.std.proofs.lemmas.List.{length-map, take_at, get_or_append_left, get_
 use Rattle.std.proofs.lemmas.List.FromFn.{length-range_with_len, get_or-range_with_len}
 use Rattle.pending.specs.Operation.{Operation, operations_of, is_expectation}
 use Rattle.pending.proofs.Chunks.{count, operation_length, words_count, operations_joined}
-use Rattle.passes.specs.Passes.{placed}
-use Rattle.passes.specs.Optimizing.{optimized, in_segments, outcome_of}
-use Rattle.passes.specs.Claims.{output, boundary_of}
-use Rattle.passes.proofs.Claimed.{claimed}
-use Rattle.passes.proofs.Further.{further}
+use Rattle.optimizer_spec.specs.Passes.{placed}
+use Rattle.optimizer_spec.specs.Optimizing.{optimized, in_segments, outcome_of}
+use Rattle.optimizer_spec.specs.Claims.{output, boundary_of}
+use Rattle.optimizer_spec.proofs.Claimed.{claimed}
+use Rattle.optimizer_spec.proofs.Further.{further}
 use Rattle.optimizer.specs.declared.Counts.{Counts}
 use Rattle.optimizer.specs.Working.{bare}
 use Rattle.optimizer.specs.Answer.{Told, counted, turned_away, told_in, held, list_in, map_in, counts_list, Answers}

@@ -6,7 +6,7 @@ use mathlib.Core.List.{reverse_aux}
 use mathlib.Core.Path.{◌∙◌, ap₂}
 use Rattle.std.proofs.lemmas.List.{append_assoc, length-append, length-take, length-drop, length-reverse, length-map, take_all, take-map, take_at, drop_at, drop_more, reverse-append, reverse-reverse, map-append}
 use Rattle.pending.specs.Operation.{Operation, is_rotation, is_measurement, strings_commute, same_string}
-use Rattle.passes.specs.Passes.{Placed, placed, further, reach, passed, Moved, move, swapping}
+use Rattle.optimizer_spec.specs.Passes.{Placed, placed, further, reach, passed, Moved, move, swapping}
 use Rattle.optimizer.proofs.Carrying.{bare_drop}
 use Rattle.optimizer.proofs.Parts.{take_sum}
 use Rattle.optimizer.specs.Working.{bare, passed_in, moved_to, Moving, move_turn, turns}

@@ -5,7 +5,7 @@ use Rattle.std.specs.Prelude.{reverse}
 use mathlib.Core.Path.{◌∙◌}
 use Rattle.std.proofs.lemmas.List.{drop_more, drop_all, length-map, length-reverse, length-take, get_or-map, get_or-reverse, get_or-take}
 use Rattle.pending.specs.Operation.{Operation, is_rotation, strings_commute, same_string}
-use Rattle.passes.specs.Passes.{Placed, placed, further, reach}
+use Rattle.optimizer_spec.specs.Passes.{Placed, placed, further, reach}
 use Rattle.optimizer.specs.Working.{before}
 
 -- n are passed, and k of those behind them; without slack none counts unless one further on is reached

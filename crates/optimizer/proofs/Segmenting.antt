@@ -5,7 +5,7 @@ use lib.Dec.{eqb-suc-zero}
 use mathlib.Core.Path.{◌∙◌, subst}
 use Rattle.std.proofs.lemmas.List.{length-map, take-append-le}
 use Rattle.pending.specs.Operation.{Operation}
-use Rattle.passes.specs.Passes.{Placed, Pair, Segment, Fused, fuse, move, is_empty, segment_of}
+use Rattle.optimizer_spec.specs.Passes.{Placed, Pair, Segment, Fused, fuse, move, is_empty, segment_of}
 use Rattle.optimizer.specs.declared.fusing.Fused as Declared
 use Rattle.optimizer.specs.declared.segments.Segment as Answer
 use Rattle.optimizer.specs.Working.{bare, live, Fusing, fusing_of, fusing_in, fuse_turn, turns, Moving, moving, move_turn, Leaves}

@@ -5,7 +5,7 @@ use Rattle.refusals.specs.Numbers as Reasons
 use Rattle.refusals.specs.declared.Refusal.{Refusal}
 use Rattle.pending.specs.Operation.{operations_of}
 use Rattle.pending.specs.Form.{operation_fits}
-use Rattle.passes.specs.Optimizing.{Outcome, Optimized, optimized, refused, as_it_is, in_segments, outcome_of}
+use Rattle.optimizer_spec.specs.Optimizing.{Outcome, Optimized, optimized, refused, as_it_is, in_segments, outcome_of}
 use Rattle.optimizer.specs.declared.checks.Verdict.{Verdict}
 use Rattle.optimizer.specs.declared.Counts.{Counts}
 use Rattle.optimizer.specs.declared.checks.Verdict.TheVariants.{AsItIs, InSegments}

@@ -1,8 +1,8 @@
 -- What is claimed of optimizing, brought to the words that a call leaves: 02, CR 6, "Also wanted".
 use Rattle.std.specs.Prelude.{ℕ, ◌*◌, ◌≤◌, ◌≡◌, List, length, get_or, take}
 use Rattle.pending.specs.Operation.{operations_of}
-use Rattle.passes.specs.Claims.{output, fusions, boundary_of, Claims}
-use Rattle.passes.specs.Further.{Further}
+use Rattle.optimizer_spec.specs.Claims.{output, fusions, boundary_of, Claims}
+use Rattle.optimizer_spec.specs.Further.{Further}
 use Rattle.optimizer.specs.declared.Counts.{Counts}
 use Rattle.optimizer.specs.Working.{bare, cancellations}
 

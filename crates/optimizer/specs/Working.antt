@@ -7,8 +7,8 @@ use Rattle.pending.specs.Operation.{Operation, kind, is_rotation}
 use Rattle.optimizer.specs.declared.fusing.Fused.{Fused}
 use Rattle.optimizer.specs.declared.segments.Segment as Declared
 use Rattle.optimizer.specs.declared.segments.Progress.{Progress}
-use Rattle.passes.specs.Optimizing.{placed_from, ends_of, segments, segments_of, no_boundary, boundary, mapped, operations_in, pairs_in}
-use Rattle.passes.specs.Passes.{Placed, Pair, Segment, placed, can_cross, can_fuse, cancels, fused, passed}
+use Rattle.optimizer_spec.specs.Optimizing.{placed_from, ends_of, segments, segments_of, no_boundary, boundary, mapped, operations_in, pairs_in}
+use Rattle.optimizer_spec.specs.Passes.{Placed, Pair, Segment, placed, can_cross, can_fuse, cancels, fused, passed}
 
 -- n turns of a loop, from turn i on
 abbrev pub turns : {S : Type 0} → (ℕ → S → S) → (n i : ℕ) → S → S

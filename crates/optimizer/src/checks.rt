@@ -3,7 +3,7 @@ ghost use Rattle.std.specs.Prelude.{◌≡◌, ◌/◌, false, true, ltb, length
 ghost use Rattle.std.specs.List.{list_any, position_from};
 ghost use Rattle.pending.specs.Operation.{operations_of, is_expectation, is_hermitian};
 ghost use Rattle.pending.specs.Form.{form_fits};
-ghost use Rattle.passes.specs.Optimizing.{is_odd_rotation, outcome_of};
+ghost use Rattle.optimizer_spec.specs.Optimizing.{is_odd_rotation, outcome_of};
 ghost use Rattle.optimizer.specs.Answer.{Sound, verdict_of};
 
 use pending::form::form_fits;

@@ -3,7 +3,7 @@ ghost use Rattle.std.specs.Prelude.{◌≡◌, ◌+◌, ◌*◌, ◌<◌, ◌≤
 ghost use Rattle.std.specs.Float.{binary64};
 ghost use Rattle.std.specs.Float.Ieee.{to_bits};
 ghost use Rattle.pending.specs.Operation.{operations_of, conditions_of};
-ghost use Rattle.passes.specs.Passes.{can_cross, same_words, can_fuse, direction, fused_angle, cancels, fused};
+ghost use Rattle.optimizer_spec.specs.Passes.{can_cross, same_words, can_fuse, direction, fused_angle, cancels, fused};
 ghost use Rattle.optimizer.specs.Working.{partner_from, partner_of, is_zero, rewritten, met, fusing_of, fusing_in, fuse_turn, turns, Within};
 
 use pending::operation::{
@@ -36,7 +36,7 @@ fn same_words(a: &[u64], b: &[u64]) -> bool
 }
 
 // Whether a rotation fuses with an operation.
-#[tactic(auto, unfolding(passes::specs::Passes::can_fuse))]
+#[tactic(auto, unfolding(optimizer_spec::specs::Passes::can_fuse))]
 fn can_fuse(rotation: &[u64], other: &[u64]) -> bool
     requires a { length rotation.now ≡ 32 }
     requires b { length other.now ≡ 32 }
@@ -82,7 +82,7 @@ fn direction(earlier: &[u64], later: &[u64]) -> f64
 }
 
 // The angle of two fused rotations.
-#[tactic(auto, unfolding(passes::specs::Passes::fused_angle))]
+#[tactic(auto, unfolding(optimizer_spec::specs::Passes::fused_angle))]
 fn fused_angle(earlier: &[u64], later: &[u64]) -> f64
     ensures { result ≡ fused_angle earlier.now later.now }
 {

@@ -9,7 +9,7 @@ pub mod segments;
 ghost use Rattle.std.specs.Prelude.{◌≡◌, ◌/◌, ◌%◌, ◌≤◌, ◌<◌, ◌-◌, ◌++◌, false, true, ltb, length, take, replicate};
 ghost use Rattle.std.specs.List.{list_any, range_with_len};
 ghost use Rattle.pending.specs.Operation.{operations_of};
-ghost use Rattle.passes.specs.Optimizing.{as_it_is, in_segments};
+ghost use Rattle.optimizer_spec.specs.Optimizing.{as_it_is, in_segments};
 ghost use Rattle.optimizer.specs.Working.{live};
 ghost use Rattle.optimizer.specs.Answer.{held, Gives, Answers};
 

@@ -1,7 +1,7 @@
 // Moving measurements earlier within a segment, in place: each in front of the rotations that it passes.
 ghost use Rattle.std.specs.Prelude.{◌≡◌, ◌+◌, ◌*◌, ◌<◌, ◌≤◌, ◌/◌, ◌&&◌, not, cond, [], length, get_or};
 ghost use Rattle.pending.specs.Operation.{operations_of, is_rotation, strings_commute, same_string};
-ghost use Rattle.passes.specs.Passes.{reach};
+ghost use Rattle.optimizer_spec.specs.Passes.{reach};
 ghost use Rattle.optimizer.specs.Working.{turns, before, passed_in, moved_to, moving, move_turn};
 
 use pending::operation::{commute, is_measurement, is_rotation, operation_at, pauli_of};
@@ -47,7 +47,7 @@ fn reach(segment: &[u64], i: usize, slack: bool) -> usize
 }
 
 // How many operations operation i passes; only a measurement passes any.
-#[tactic(auto, unfolding(passes::specs::Passes::passed))]
+#[tactic(auto, unfolding(optimizer_spec::specs::Passes::passed))]
 fn passed_in(segment: &[u64], i: usize, slack: bool) -> usize
     requires { i < length segment.now / 32 }
     ensures passed { result ≡ passed_in slack (operations_of segment.now) i }

@@ -2,7 +2,7 @@
 ghost use Rattle.std.specs.Prelude.{◌≡◌, ℕ, ◌+◌, ◌-◌, ◌/◌, ◌<◌, ◌≤◌, ◌++◌, false, ltb, List, length, get_or, take, drop};
 ghost use Rattle.std.specs.List.{list_any};
 ghost use Rattle.pending.specs.Operation.{Operation, operations_of};
-ghost use Rattle.passes.specs.Passes.{Placed, segment_of};
+ghost use Rattle.optimizer_spec.specs.Passes.{Placed, segment_of};
 ghost use Rattle.optimizer.specs.Working.{bare, live, Leaves, Few, Going, Come, mark, Finished};
 
 use crate::fusing::fuse_commuting_rotations;

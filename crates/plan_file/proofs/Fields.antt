@@ -3,7 +3,7 @@ use Rattle.std.specs.Prelude.{Ok}
 use mathlib.Core.Path.{◌≡◌, refl}
 use Prim.Native.Nat.{ℕ}
 use native.Mathlib.Omega.{arith}
-use Rattle.definition.specs.Plan.{Plan, Result, planned, refused_at}
+use Rattle.plan_spec.specs.Plan.{Plan, Result, planned, refused_at}
 use Rattle.answer.specs.declared.ActiveComponentPlan.{ActiveComponentPlan}
 use Rattle.answer.specs.Outcome.{outcome_of, used_in, outcome_in}
 use Rattle.stored_plan.specs.Stored.{scalars_of}

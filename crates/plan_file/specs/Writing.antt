@@ -1,9 +1,9 @@
 -- What the functions that write a file say: the scalar words of an answer, and a file's words and trailer by its counts alone. The form itself is `Stored` of the crate
 -- `stored_plan`, and the proofs show these to be its words.
 use Rattle.std.specs.Prelude.{ℕ, ◌+◌, ◌*◌, List, [], ◌∷◌}
-use Rattle.definition.specs.Walk.{flag_word, bits_word}
-use Rattle.outputs.specs.declared.WordCounts.{WordCounts}
-use Rattle.outputs.specs.Stored.{Outputs}
+use Rattle.plan_spec.specs.Walk.{flag_word, bits_word}
+use Rattle.plan_buffers.specs.declared.WordCounts.{WordCounts}
+use Rattle.plan_buffers.specs.Stored.{Outputs}
 use Rattle.stored_plan.specs.Stored.{Kept}
 use Rattle.plan_file.specs.declared.Sections.{Sections}
 use Rattle.answer.specs.declared.ActiveComponentPlan.{ActiveComponentPlan}

@@ -3,15 +3,15 @@
 #![tactic(auto)]
 
 ghost use Rattle.std.specs.Prelude.{◌≡◌, ◌+◌, ◌*◌, ◌≤◌, ◌<◌, ◌^◌, length};
-ghost use Rattle.definition.specs.Plan.{padded};
+ghost use Rattle.plan_spec.specs.Plan.{padded};
 ghost use Rattle.stored_plan.specs.Stored.{bytes_of};
-ghost use Rattle.outputs.specs.Stored.{lengths_of};
+ghost use Rattle.plan_buffers.specs.Stored.{lengths_of};
 ghost use Rattle.plan_file.specs.Writing.{words_in, kept_in, scalars_in, words_for, trailer_for};
 
 use answer::ActiveComponentPlan;
 use file_words::put_words;
-use outputs::WordCounts;
-use outputs::buffers::fill_from;
+use plan_buffers::WordCounts;
+use plan_buffers::buffers::fill_from;
 use records::float_bits;
 
 // The words that a file keeps of each of the first six outputs.

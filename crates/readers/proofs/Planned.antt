@@ -15,19 +15,19 @@ use Rattle.records.specs.Record.{instructions_of}
 use Rattle.records.specs.declared.Head.{Head}
 use Rattle.records.specs.declared.Instruction.{Instruction}
 use Rattle.records.specs.declared.Instruction.TheVariants.{DormantBranch}
-use Rattle.definition.specs.Lists.{concat, place_of, remove_at}
-use Rattle.definition.specs.Components.{local_mask}
-use Rattle.definition.specs.Walk.{Written, Walk, Join, join_of, no_step, ignored_step, promotion_step, rotation_step, measurement_step, start, step, finished, onward, walk_from}
-use Rattle.definition.specs.Plan.{Plan, plan_from, plan_of, unread}
-use Rattle.definition.specs.Connectivity.{listed_by}
-use Rattle.definition.specs.Sources.{Listed}
-use Rattle.definition.proofs.Steps.{Stepped, ignored, rotated, promoted, measured, recorded, detected, expected, branched, Run, more, run_of_walk}
-use Rattle.definition.proofs.Growth.{Extends, extends_trans, extends_length, Grown, AllOf, length_concat, concat-append, concat_more, rotation_row_length, measurement_row_length, run_grown, run_rotations, run_measurements, start_wide}
-use Rattle.definition.proofs.Replay.{seam_part, seam_entry}
-use Rattle.definition.proofs.Padded.{Pads}
-use Rattle.definition.proofs.Room.{steps_count}
-use Rattle.definition.proofs.Accepted.{accepted}
-use Rattle.outputs.specs.Outputs.{Buffers, lengths_of}
+use Rattle.plan_spec.specs.Lists.{concat, place_of, remove_at}
+use Rattle.plan_spec.specs.Components.{local_mask}
+use Rattle.plan_spec.specs.Walk.{Written, Walk, Join, join_of, no_step, ignored_step, promotion_step, rotation_step, measurement_step, start, step, finished, onward, walk_from}
+use Rattle.plan_spec.specs.Plan.{Plan, plan_from, plan_of, unread}
+use Rattle.plan_spec.specs.Connectivity.{listed_by}
+use Rattle.plan_spec.specs.Sources.{Listed}
+use Rattle.plan_spec.proofs.Steps.{Stepped, ignored, rotated, promoted, measured, recorded, detected, expected, branched, Run, more, run_of_walk}
+use Rattle.plan_spec.proofs.Growth.{Extends, extends_trans, extends_length, Grown, AllOf, length_concat, concat-append, concat_more, rotation_row_length, measurement_row_length, run_grown, run_rotations, run_measurements, start_wide}
+use Rattle.plan_spec.proofs.Replay.{seam_part, seam_entry}
+use Rattle.plan_spec.proofs.Padded.{Pads}
+use Rattle.plan_spec.proofs.Room.{steps_count}
+use Rattle.plan_spec.proofs.Accepted.{accepted}
+use Rattle.plan_buffers.specs.Outputs.{Buffers, lengths_of}
 use Rattle.component_plan.specs.Answer.{Answers}
 use Rattle.component_plan.specs.Demand.{plan_in}
 use Rattle.answer.specs.declared.ActiveComponentPlan.{ActiveComponentPlan}
@@ -35,7 +35,7 @@ use Rattle.component_plan.proofs.Demand.{planned_pads}
 use Rattle.readers.specs.Reading.{part_of, row_at, step_in, rotation_in, measurement_in}
 use Rattle.readers.specs.Back.{StepIs, GivenBack}
 use Rattle.readers.proofs.Rows.{part_there, row_there}
-use Rattle.definition.proofs.Words.{FloatsFit, instruction_floats}
+use Rattle.plan_spec.proofs.Words.{FloatsFit, instruction_floats}
 use Rattle.readers.proofs.ReadBack.{rotation_fits, rotation_back, measurement_fits, measurement_back}
 
 -- ---- where words stand

@@ -18,9 +18,9 @@ use Rattle.kernels.specs.declared.active.Complex64.{Complex64}
 use Rattle.kernels.specs.declared.active.ActivePauliAction.{ActivePauliAction}
 use Rattle.kernels.specs.declared.active.PrecomputedActivePauliRotationKernel.{PrecomputedActivePauliRotationKernel}
 use Rattle.kernels.specs.declared.active.PrecomputedActivePauliMeasurementKernel.{PrecomputedActivePauliMeasurementKernel}
-use Rattle.definition.specs.Walk.{flag_word, bits_word, row_head, rotation_row, measurement_row}
-use Rattle.definition.proofs.Steps.{given_same}
-use Rattle.definition.proofs.Words.{FloatFits}
+use Rattle.plan_spec.specs.Walk.{flag_word, bits_word, row_head, rotation_row, measurement_row}
+use Rattle.plan_spec.proofs.Steps.{given_same}
+use Rattle.plan_spec.proofs.Words.{FloatFits}
 use Rattle.readers.specs.Reading.{flag_in, complex_in, action_in, rotation_in, measurement_in}
 
 -- ---- floats that binary64 holds

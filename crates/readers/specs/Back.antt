@@ -7,12 +7,12 @@ use Rattle.kernels.specs.declared.active.PrecomputedActivePauliRotationKernel.{P
 use Rattle.kernels.specs.declared.active.PrecomputedActivePauliMeasurementKernel.{PrecomputedActivePauliMeasurementKernel}
 use Rattle.records.specs.declared.Instruction.{Instruction}
 use Rattle.records.specs.declared.Instruction.TheVariants.{Rotation, Promotion, RecordMeasurement, RecordDetector, Measurement, Expectation, DormantBranch}
-use Rattle.definition.specs.Lists.{place_of, remove_at}
-use Rattle.definition.specs.Walk.{Walk, Join, join_of, local_action}
-use Rattle.outputs.specs.Outputs.{Buffers}
-use Rattle.rows.specs.declared.RowHead.{RowHead}
-use Rattle.rows.specs.declared.RotationRow.{RotationRow}
-use Rattle.rows.specs.declared.MeasurementRow.{MeasurementRow}
+use Rattle.plan_spec.specs.Lists.{place_of, remove_at}
+use Rattle.plan_spec.specs.Walk.{Walk, Join, join_of, local_action}
+use Rattle.plan_buffers.specs.Outputs.{Buffers}
+use Rattle.plan_rows.specs.declared.RowHead.{RowHead}
+use Rattle.plan_rows.specs.declared.RotationRow.{RotationRow}
+use Rattle.plan_rows.specs.declared.MeasurementRow.{MeasurementRow}
 use Rattle.readers.specs.Reading.{part_of, step_at, rotation_at, measurement_at}
 
 -- step i has this kind and payload

@@ -8,10 +8,10 @@ use Rattle.kernels.specs.declared.active.Complex64.{Complex64}
 use Rattle.kernels.specs.declared.active.ActivePauliAction.{ActivePauliAction}
 use Rattle.kernels.specs.declared.active.PrecomputedActivePauliRotationKernel.{PrecomputedActivePauliRotationKernel}
 use Rattle.kernels.specs.declared.active.PrecomputedActivePauliMeasurementKernel.{PrecomputedActivePauliMeasurementKernel}
-use Rattle.definition.specs.Lists.{numbers_from}
-use Rattle.rows.specs.declared.RowHead.{RowHead}
-use Rattle.rows.specs.declared.RotationRow.{RotationRow}
-use Rattle.rows.specs.declared.MeasurementRow.{MeasurementRow}
+use Rattle.plan_spec.specs.Lists.{numbers_from}
+use Rattle.plan_rows.specs.declared.RowHead.{RowHead}
+use Rattle.plan_rows.specs.declared.RotationRow.{RotationRow}
+use Rattle.plan_rows.specs.declared.MeasurementRow.{MeasurementRow}
 use Rattle.readers.specs.declared.StepWords.{StepWords}
 
 -- "the part from merge offset on, of merge count words"; "a row whose offset and count run past the end of the lent merge buffer gets an empty part"

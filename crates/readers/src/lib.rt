@@ -9,7 +9,7 @@ use kernels::active::{
     PrecomputedActivePauliRotationKernel,
 };
 use records::float_of;
-use rows::{MeasurementRow, RotationRow, RowHead};
+use plan_rows::{MeasurementRow, RotationRow, RowHead};
 
 // What a row's words are read as. It is no part of `Row`: a step is read whatever number stands for its kind, so what is read is no `Step`.
 pub trait FromWords: Copy {

@@ -6,10 +6,10 @@ use mathlib.Core.List.{List, [], ◌∷◌}
 use native.Mathlib.Omega.{arith}
 use lib.ListN.{length, set, get_or, drop, replicate, length-set}
 use lib.Dec.{eqb}
-use Rattle.positions.specs.Positions.{Below512}
+use Rattle.masks.specs.Positions.{Below512}
 use Rattle.state.specs.Steps.{Gathering, gather_from, gathering, target_of, sizes_after}
 use Rattle.state.specs.declared.State.{State}
-use Rattle.positions.proofs.Arrays.{rest_at}
+use Rattle.masks.proofs.Arrays.{rest_at}
 
 pub grown_rises : (sources : List ℕ) (g : Gathering) → g.grown ≤ (gather_from sources g).grown
 grown_rises [] g = omega arith

@@ -6,7 +6,7 @@ use lib.Dec.{ltb}
 use lib.ListN.{length, get_or}
 use borrow.Author.Tests.{lt-ltb, le-ltb}
 use native.Mathlib.Omega.{arith}
-use Rattle.positions.specs.Positions.{Below512}
+use Rattle.masks.specs.Positions.{Below512}
 use Rattle.state.specs.Steps.{skip, lowered}
 use Rattle.state.specs.declared.State.{State}
 

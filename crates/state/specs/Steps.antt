@@ -1,6 +1,6 @@
 -- What the contracts of the crate `state` say: the state's arrays after each step, entry by entry. 01, section 4.
 use Rattle.std.specs.Prelude.{ℕ, suc, ◌+◌, ◌-◌, ◌<◌, ◌≤◌, ◌≡◌, List, [], ◌∷◌, length, get_or, set, drop, replicate, if◌then◌else◌, nat_lt, ◌==◌}
-use Rattle.positions.specs.Positions.{Below512}
+use Rattle.masks.specs.Positions.{Below512}
 use Rattle.state.specs.declared.State.{State}
 
 -- ---- the active order

@@ -9,15 +9,15 @@ use native.Mathlib.Omega.{arith}
 use lib.ListN.{length}
 use borrow.Author.Tests.{lt-ltb, le-ltb}
 use Rattle.records.specs.declared.Head.{Head}
-use Rattle.definition.specs.Plan.{Plan, Result, planned, refused_at, refuse_all, plan_of, padded, held_after}
-use Rattle.definition.proofs.Room.{plan_fits_in}
-use Rattle.definition.proofs.Words.{plan_counts}
-use Rattle.outputs.specs.declared.WordCounts.{WordCounts}
-use Rattle.outputs.specs.Stored.{Outputs}
+use Rattle.plan_spec.specs.Plan.{Plan, Result, planned, refused_at, refuse_all, plan_of, padded, held_after}
+use Rattle.plan_spec.proofs.Room.{plan_fits_in}
+use Rattle.plan_spec.proofs.Words.{plan_counts}
+use Rattle.plan_buffers.specs.declared.WordCounts.{WordCounts}
+use Rattle.plan_buffers.specs.Stored.{Outputs}
 use Rattle.refusals.specs.Numbers.{number_of}
 use Rattle.refusals.specs.declared.Refusal.{Refusal}
 use Rattle.refusals.specs.declared.Reason.TheVariants.{Lengths as LengthsShort}
-use Rattle.outputs.specs.Outputs.{Buffers, lengths_of, SameLengths}
+use Rattle.plan_buffers.specs.Outputs.{Buffers, lengths_of, SameLengths}
 use Rattle.lent.specs.Lent.{Held}
 use Rattle.answer.specs.declared.ActiveComponentPlan.{ActiveComponentPlan}
 use Rattle.answer.specs.Outcome.{outcome_of, used_in}

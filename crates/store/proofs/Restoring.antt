@@ -8,13 +8,13 @@ use native.Mathlib.Omega.{arith}
 use lib.Dec.{ltb}
 use lib.ListN.{length, take}
 use Rattle.records.specs.declared.Head.{Head}
-use Rattle.definition.specs.Plan.{Plan, Result, planned, refused_at, refuse_all, plan_of, padded, held_after}
-use Rattle.outputs.specs.Outputs as Outputs
-use Rattle.outputs.specs.Outputs.{Buffers}
+use Rattle.plan_spec.specs.Plan.{Plan, Result, planned, refused_at, refuse_all, plan_of, padded, held_after}
+use Rattle.plan_buffers.specs.Outputs as Outputs
+use Rattle.plan_buffers.specs.Outputs.{Buffers}
 use Rattle.component_plan.proofs.Filled.{front_of_padded}
 use Rattle.stored_plan.specs.Stored.{kept_of, file_of}
 use Rattle.stored_plan.specs.Reading.{Read, restored, trailer_word, read_file}
-use Rattle.outputs.specs.Stored.{Outputs, lengths_of}
+use Rattle.plan_buffers.specs.Stored.{Outputs, lengths_of}
 use Rattle.stored_plan.specs.Loading.{Loads, Restored, outcome_in}
 use Rattle.refusals.specs.declared.Reason.{Reason}
 use Rattle.stored_plan.specs.declared.StoredPlan.{StoredPlan}

@@ -3,10 +3,10 @@ use Rattle.std.specs.Prelude.{ℕ, ◌≡◌, ◌≤◌, List, length, take, Res
 use Rattle.refusals.specs.Numbers.{number_of}
 use Rattle.refusals.specs.declared.Refusal.{Refusal}
 use Rattle.records.specs.declared.Head.{Head}
-use Rattle.definition.specs.Plan.{Lengths, Result, planned, refused_at, refuse_all, plan_of, held_after}
-use Rattle.outputs.specs.Outputs.{Buffers, lengths_of}
-use Rattle.outputs.specs.declared.WordCounts.{WordCounts}
-use Rattle.outputs.specs.Stored.{Outputs}
+use Rattle.plan_spec.specs.Plan.{Lengths, Result, planned, refused_at, refuse_all, plan_of, held_after}
+use Rattle.plan_buffers.specs.Outputs.{Buffers, lengths_of}
+use Rattle.plan_buffers.specs.declared.WordCounts.{WordCounts}
+use Rattle.plan_buffers.specs.Stored.{Outputs}
 use Rattle.lent.specs.Lent.{Held}
 use Rattle.answer.specs.declared.ActiveComponentPlan.{ActiveComponentPlan}
 use Rattle.stored_plan.specs.Stored.{Kept, file_of}

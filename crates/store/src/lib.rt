@@ -3,9 +3,9 @@
 #![tactic(auto)]
 
 ghost use Rattle.std.specs.Prelude.{◌≡◌, ◌*◌, ◌≤◌, length};
-ghost use Rattle.definition.specs.Plan.{padded};
-ghost use Rattle.outputs.specs.Outputs.{buffers_of};
-ghost use Rattle.outputs.specs.Stored.{outputs_of, SameOutputs};
+ghost use Rattle.plan_spec.specs.Plan.{padded};
+ghost use Rattle.plan_buffers.specs.Outputs.{buffers_of};
+ghost use Rattle.plan_buffers.specs.Stored.{outputs_of, SameOutputs};
 ghost use Rattle.stored_plan.specs.Stored.{bytes_of};
 ghost use Rattle.plan_file.specs.Writing.{words_for};
 ghost use Rattle.store.specs.Storing.{UsedInside, used_of, Stores};
@@ -13,8 +13,8 @@ ghost use Rattle.store.specs.Storing.{UsedInside, used_of, Stores};
 use answer::ActiveComponentPlan;
 use component_plan::build_active_component_plan;
 use lent::clear_all;
-use outputs::StoredOutputs;
-use outputs::buffers::fill_from;
+use plan_buffers::StoredOutputs;
+use plan_buffers::buffers::fill_from;
 use plan_file::{Sections, word_count, write_file};
 use records::Head;
 use refusals::{Reason, Refusal};

@@ -9,9 +9,9 @@ use lib.Dec.{eqb}
 use lib.ListN.{length, get_or}
 use Rattle.std.proofs.Common.{rules}
 use Rattle.std.proofs.lemmas.Grind.{common_steps}
-use Rattle.definition.specs.Lists.{numbers_from}
-use Rattle.outputs.specs.declared.WordCounts.{WordCounts}
-use Rattle.outputs.specs.Stored.{outputs_short}
+use Rattle.plan_spec.specs.Lists.{numbers_from}
+use Rattle.plan_buffers.specs.declared.WordCounts.{WordCounts}
+use Rattle.plan_buffers.specs.Stored.{outputs_short}
 use Rattle.file_words.specs.Words.{word_at, words_at}
 use Rattle.file_words.proofs.Bytes.{length_words}
 use Rattle.stored_plan.specs.Stored.{Kept}

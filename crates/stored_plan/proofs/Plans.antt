@@ -11,13 +11,13 @@ use lib.Ieee.{Float, binary64, fits, of_bits}
 use lib.Ieee.Bits.{of_bits-to_bits}
 use borrow.Author.Tests.{eq-eqb, le-ltb}
 use Rattle.records.specs.declared.Head.{Head}
-use Rattle.definition.specs.Lists.{concat}
-use Rattle.definition.specs.Walk.{flag_word, bits_word}
-use Rattle.definition.specs.Plan.{Lengths, Plan, planned, plan_of}
-use Rattle.definition.specs.Laws.{Words}
-use Rattle.definition.proofs.Words.{words_append, flag_word_lem, plan_words, works_fit, plan_counts}
-use Rattle.outputs.specs.declared.WordCounts.{WordCounts}
-use Rattle.outputs.specs.Stored.{outputs_short}
+use Rattle.plan_spec.specs.Lists.{concat}
+use Rattle.plan_spec.specs.Walk.{flag_word, bits_word}
+use Rattle.plan_spec.specs.Plan.{Lengths, Plan, planned, plan_of}
+use Rattle.plan_spec.specs.Laws.{Words}
+use Rattle.plan_spec.proofs.Words.{words_append, flag_word_lem, plan_words, works_fit, plan_counts}
+use Rattle.plan_buffers.specs.declared.WordCounts.{WordCounts}
+use Rattle.plan_buffers.specs.Stored.{outputs_short}
 use Rattle.file_words.proofs.Bytes.{length_bytes}
 use Rattle.stored_plan.specs.Stored.{Kept, kept_of, scalars_of, sections_of, trailer_of, words_of, file_of}
 use Rattle.stored_plan.specs.Reading.{restored, trailer_word, counts_of, odd_counts, counts_refused, read_file}

@@ -11,9 +11,9 @@ use lib.Dec.{eqb}
 use lib.ListN.{length, get_or, take, drop, length-append}
 use lib.Seq.{take_at, drop_at, take_all, drop-drop, get_or-append-add}
 use borrow.Author.Tests.{eqb-true, eq-eqb, le-ltb}
-use Rattle.definition.specs.Lists.{concat, numbers_from}
-use Rattle.definition.specs.Laws.{Words}
-use Rattle.outputs.specs.declared.WordCounts.{WordCounts}
+use Rattle.plan_spec.specs.Lists.{concat, numbers_from}
+use Rattle.plan_spec.specs.Laws.{Words}
+use Rattle.plan_buffers.specs.declared.WordCounts.{WordCounts}
 use Rattle.file_words.specs.Words.{word_bytes, word_at, words_at}
 use Rattle.file_words.specs.Laws.{Bytes}
 use Rattle.file_words.proofs.Bytes.{length_bytes, length_words, words_are}

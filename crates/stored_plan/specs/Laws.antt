@@ -1,7 +1,7 @@
 -- What the laws of stored plans say: 02, CR 2, "One plan has one file, and reading a written plan restores these fields and every row".
 use Rattle.std.specs.Prelude.{◌≤◌, ◌≡◌, length}
-use Rattle.definition.specs.Plan.{Plan}
-use Rattle.outputs.specs.declared.WordCounts.{WordCounts}
+use Rattle.plan_spec.specs.Plan.{Plan}
+use Rattle.plan_buffers.specs.declared.WordCounts.{WordCounts}
 
 -- outputs of these lengths have room for a plan's first six outputs
 pub record LongEnough (p : Plan) (lent : WordCounts) : Type 0 where

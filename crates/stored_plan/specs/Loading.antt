@@ -1,9 +1,9 @@
 -- What the contract of `load` says: its answer, and the six outputs, for what reading the file gives.
 use Rattle.std.specs.Prelude.{ℕ, ◌+◌, ◌*◌, ◌≤◌, ◌≡◌, List, [], ◌∷◌, map, length, get_or, Result, Ok, Err}
-use Rattle.definition.specs.Lists.{numbers_from}
-use Rattle.definition.specs.Plan.{padded}
-use Rattle.outputs.specs.declared.WordCounts.{WordCounts}
-use Rattle.outputs.specs.Stored.{Outputs, lengths_of}
+use Rattle.plan_spec.specs.Lists.{numbers_from}
+use Rattle.plan_spec.specs.Plan.{padded}
+use Rattle.plan_buffers.specs.declared.WordCounts.{WordCounts}
+use Rattle.plan_buffers.specs.Stored.{Outputs, lengths_of}
 use Rattle.stored_plan.specs.Stored.{Kept}
 use Rattle.stored_plan.specs.Reading.{Read, restored, refused, trailer_word, counts_of, read_file}
 use Rattle.stored_plan.specs.declared.ScalarWords.{ScalarWords}

@@ -1,9 +1,9 @@
 -- What reading any list of bytes gives: refusals 21, 22 and 23 in this order, and else the sections. Written from 02, CR 2: "Reading looks at the trailer and
 -- component_count only and hands every other word back unjudged".
 use Rattle.std.specs.Prelude.{if◌then◌else◌, ℕ, ◌+◌, ◌-◌, ◌*◌, ◌/◌, ◌%◌, List, [], ◌∷◌, map, Bool, true, false, not, ◌&&◌, ◌||◌, length, get_or, nat_lt, ◌==◌}
-use Rattle.definition.specs.Lists.{numbers_from}
-use Rattle.outputs.specs.declared.WordCounts.{WordCounts}
-use Rattle.outputs.specs.Stored.{outputs_short}
+use Rattle.plan_spec.specs.Lists.{numbers_from}
+use Rattle.plan_buffers.specs.declared.WordCounts.{WordCounts}
+use Rattle.plan_buffers.specs.Stored.{outputs_short}
 use Rattle.file_words.specs.Words.{word_at, words_at}
 use Rattle.stored_plan.specs.Stored.{Kept}
 

@@ -3,17 +3,17 @@
 #![tactic(auto)]
 
 ghost use Rattle.std.specs.Prelude.{◌≡◌, cond, map, ◌+◌, ◌*◌, ◌≤◌, length, get_or, IfOk};
-ghost use Rattle.definition.specs.Lists.{numbers_from};
-ghost use Rattle.definition.specs.Plan.{padded};
+ghost use Rattle.plan_spec.specs.Lists.{numbers_from};
+ghost use Rattle.plan_spec.specs.Plan.{padded};
 ghost use Rattle.file_words.specs.Words.{words_at};
-ghost use Rattle.outputs.specs.Stored.{outputs_of, SameOutputs};
+ghost use Rattle.plan_buffers.specs.Stored.{outputs_of, SameOutputs};
 ghost use Rattle.stored_plan.specs.Reading.{file_refused, touch, odd_counts, read_file};
 ghost use Rattle.refusals.specs.Answer.{number_or_0};
 ghost use Rattle.stored_plan.specs.Loading.{Loads, number_of, scalar_list, trailer_in, counts_in};
 
 use file_words::{get_words, word_at};
-use outputs::buffers::fill_from;
-use outputs::{StoredOutputs, WordCounts};
+use plan_buffers::buffers::fill_from;
+use plan_buffers::{StoredOutputs, WordCounts};
 use refusals::Reason;
 
 // The words of the eight scalar fields, as a file has them.

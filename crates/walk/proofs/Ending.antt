@@ -10,24 +10,24 @@ use lib.Seq.{take-append_seam}
 use Rattle.records.specs.Record.{instructions_of}
 use Rattle.records.specs.declared.Instruction.{Instruction}
 use Rattle.records.proofs.Laws.{instructions_length}
-use Rattle.definition.specs.Lists.{numbers_from}
-use Rattle.definition.specs.Components.{live_dimension}
-use Rattle.definition.specs.Walk.{Walk, start, walk_from, Walked, finished}
-use Rattle.definition.specs.Plan.{groups_of}
-use Rattle.definition.specs.Connectivity.{active_start, active_after}
-use Rattle.definition.proofs.Counting.{length-numbers}
-use Rattle.definition.proofs.Steps.{done}
-use Rattle.definition.proofs.Tracking.{active_of, tracked_here}
-use Rattle.definition.proofs.Room.{enough, alone_live}
+use Rattle.plan_spec.specs.Lists.{numbers_from}
+use Rattle.plan_spec.specs.Components.{live_dimension}
+use Rattle.plan_spec.specs.Walk.{Walk, start, walk_from, Walked, finished}
+use Rattle.plan_spec.specs.Plan.{groups_of}
+use Rattle.plan_spec.specs.Connectivity.{active_start, active_after}
+use Rattle.plan_spec.proofs.Counting.{length-numbers}
+use Rattle.plan_spec.proofs.Steps.{done}
+use Rattle.plan_spec.proofs.Tracking.{active_of, tracked_here}
+use Rattle.plan_spec.proofs.Room.{enough, alone_live}
 use Rattle.state.specs.declared.State.{State}
-use Rattle.tally.specs.declared.Tally.{Tally}
+use Rattle.work_sums.specs.declared.Tally.{Tally}
 use Rattle.state.specs.Steps.{Started}
-use Rattle.tally.specs.Tally.{start_tally}
-use Rattle.outputs.specs.Buffers.{counts_of, placed_up_to}
-use Rattle.representation.specs.Represents.{Ordered}
-use Rattle.representation.proofs.Moving.{represents_start}
-use Rattle.representation.proofs.Groups.{GroupsWritten, groups_written}
-use Rattle.outputs.specs.Outputs.{Buffers, SameLengths, lengths_of}
+use Rattle.work_sums.specs.Tally.{start_tally}
+use Rattle.plan_buffers.specs.Buffers.{counts_of, placed_up_to}
+use Rattle.state_model.specs.Represents.{Ordered}
+use Rattle.state_model.proofs.Moving.{represents_start}
+use Rattle.state_model.proofs.Groups.{GroupsWritten, groups_written}
+use Rattle.plan_buffers.specs.Outputs.{Buffers, SameLengths, lengths_of}
 use Rattle.walk.specs.Walking.{WalkEnds, Walkable}
 use Rattle.walk.specs.Looping.{Reached}
 use Rattle.walk.proofs.Reaching.{tracked, made, active_most, groups_small}

@@ -4,9 +4,9 @@ use mathlib.Core.List.{List, [], ◌∷◌, ◌++◌, append_assoc}
 use Prim.Native.Nat.{ℕ, suc, ◌+◌, ◌<◌}
 use lib.ListN.{length, get_or, set, take, drop, length-set}
 use lib.Seq.{take-append_seam, set_split, take-set-lt, get_or-take}
-use Rattle.definition.specs.Lists.{concat}
-use Rattle.definition.proofs.Growth.{concat_more}
-use Rattle.outputs.specs.Buffers.{patch}
+use Rattle.plan_spec.specs.Lists.{concat}
+use Rattle.plan_spec.proofs.Growth.{concat_more}
+use Rattle.plan_buffers.specs.Buffers.{patch}
 use Rattle.walk.specs.Walking.{Begins}
 
 -- what begins with words has them in front

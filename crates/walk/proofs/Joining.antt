@@ -12,29 +12,29 @@ use lib.ListN.{length, get_or, set, drop, length-append}
 use lib.Seq.{set-get_or}
 use lib.Pow.{pow_mono}
 use Rattle.kernels.specs.Bits.{bit_at, exp2}
-use Rattle.definition.specs.Lists.{is_in, place_of, concat}
-use Rattle.definition.specs.Components.{members_of, size_of, gathered, joined, two_f, cost_from, joining_cost, live_dimension, local_mask}
-use Rattle.definition.specs.WholeWorks.{whole_cost_from, whole_joining_cost}
-use Rattle.definition.specs.Walk.{Walk, Join, join_of}
-use Rattle.definition.specs.Connectivity.{Member, NoRepeats, ActiveOrder, support_of}
-use Rattle.definition.proofs.Counting.{member_length, member_head, member_tail}
-use Rattle.definition.proofs.Joins.{gathered_holds}
-use Rattle.definition.proofs.LocalBits.{local_below}
-use Rattle.definition.proofs.Live.{rearranged_length}
-use Rattle.definition.proofs.Invariant.{Holds, sources_once, source_holds}
-use Rattle.definition.proofs.Tracking.{Tracked, active_of, tracked_here, tracked_join, target_source, target_members}
-use Rattle.definition.proofs.Room.{join_live, holds_live}
-use Rattle.definition.proofs.States.{tracked_whole}
+use Rattle.plan_spec.specs.Lists.{is_in, place_of, concat}
+use Rattle.plan_spec.specs.Components.{members_of, size_of, gathered, joined, two_f, cost_from, joining_cost, live_dimension, local_mask}
+use Rattle.plan_spec.specs.WholeWorks.{whole_cost_from, whole_joining_cost}
+use Rattle.plan_spec.specs.Walk.{Walk, Join, join_of}
+use Rattle.plan_spec.specs.Connectivity.{Member, NoRepeats, ActiveOrder, support_of}
+use Rattle.plan_spec.proofs.Counting.{member_length, member_head, member_tail}
+use Rattle.plan_spec.proofs.Joins.{gathered_holds}
+use Rattle.plan_spec.proofs.LocalBits.{local_below}
+use Rattle.plan_spec.proofs.Live.{rearranged_length}
+use Rattle.plan_spec.proofs.Invariant.{Holds, sources_once, source_holds}
+use Rattle.plan_spec.proofs.Tracking.{Tracked, active_of, tracked_here, tracked_join, target_source, target_members}
+use Rattle.plan_spec.proofs.Room.{join_live, holds_live}
+use Rattle.plan_spec.proofs.States.{tracked_whole}
 use Rattle.state.specs.declared.State.{State}
-use Rattle.positions.specs.Positions.{picked, reached_mask, sources_in, local_of}
+use Rattle.masks.specs.Positions.{picked, reached_mask, sources_in, local_of}
 use Rattle.state.specs.Steps.{BeforeJoin, Joined}
-use Rattle.tally.specs.Tally.{sizes_of, powers, cost_in, whole_cost_in, Countable}
-use Rattle.representation.specs.Represents.{Represents}
-use Rattle.representation.proofs.Sources.{sources_same, reached_source, stands, stands_in}
-use Rattle.representation.proofs.Joining.{size_most, joinable, before_join, represents_join}
-use Rattle.representation.proofs.LocalMasks.{bit_reached, local_same, pivot_in, pivot_place}
-use Rattle.representation.proofs.Sums.{live_join, powers_live}
-use Rattle.turns.specs.Turns.{sources_at}
+use Rattle.work_sums.specs.Tally.{sizes_of, powers, cost_in, whole_cost_in, Countable}
+use Rattle.state_model.specs.Represents.{Represents}
+use Rattle.state_model.proofs.Sources.{sources_same, reached_source, stands, stands_in}
+use Rattle.state_model.proofs.Joining.{size_most, joinable, before_join, represents_join}
+use Rattle.state_model.proofs.LocalMasks.{bit_reached, local_same, pivot_in, pivot_place}
+use Rattle.state_model.proofs.Sums.{live_join, powers_live}
+use Rattle.record_steps.specs.Turns.{sources_at}
 
 -- ---- sums over sources, by sizes and by members
 

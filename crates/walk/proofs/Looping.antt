@@ -14,31 +14,31 @@ use Rattle.records.specs.Record.{record_at, instruction_of, instructions_of}
 use Rattle.records.proofs.Laws.{instruction_at}
 use Rattle.records.specs.declared.Instruction.{Instruction}
 use Rattle.records.specs.declared.Instruction.TheVariants.{Rotation, Promotion, RecordMeasurement, RecordDetector, Measurement, Expectation, DormantBranch}
-use Rattle.definition.specs.Lists.{concat}
-use Rattle.definition.proofs.Counting.{same_or_not}
-use Rattle.definition.specs.Walk.{Walk, join_of, no_step, ignored_step, promotion_step, rotation_step, measurement_step, step, start, walk_from, stopped}
-use Rattle.definition.proofs.Room.{width_of}
+use Rattle.plan_spec.specs.Lists.{concat}
+use Rattle.plan_spec.proofs.Counting.{same_or_not}
+use Rattle.plan_spec.specs.Walk.{Walk, join_of, no_step, ignored_step, promotion_step, rotation_step, measurement_step, step, start, walk_from, stopped}
+use Rattle.plan_spec.proofs.Room.{width_of}
 use Rattle.state.specs.declared.State.{State}
-use Rattle.tally.specs.declared.Tally.{Tally}
-use Rattle.tally.specs.declared.Joining.{Joining}
+use Rattle.work_sums.specs.declared.Tally.{Tally}
+use Rattle.work_sums.specs.declared.Joining.{Joining}
 use Rattle.state.specs.Steps.{InOrder, Closed, Started, Joined, promoted, BeforeRemoval, Removed}
-use Rattle.tally.specs.Tally.{start_tally, joining_of, ignored_tally}
-use Rattle.outputs.specs.Buffers.{patch, counts_of, CountsFit, placed_up_to, PlacesFit}
-use Rattle.representation.specs.Represents.{Ordered, Represents}
-use Rattle.representation.proofs.Moving.{ordered_start, ordered_promotion, ordered_removal}
-use Rattle.outputs.specs.Outputs.{Buffers, SameLengths}
+use Rattle.work_sums.specs.Tally.{start_tally, joining_of, ignored_tally}
+use Rattle.plan_buffers.specs.Buffers.{patch, counts_of, CountsFit, placed_up_to, PlacesFit}
+use Rattle.state_model.specs.Represents.{Ordered, Represents}
+use Rattle.state_model.proofs.Moving.{ordered_start, ordered_promotion, ordered_removal}
+use Rattle.plan_buffers.specs.Outputs.{Buffers, SameLengths}
 use Rattle.walk.specs.Walking.{Begins, WalkEnds, Walkable}
 use Rattle.walk.specs.Looping.{Reached, Looping, Joins, JoinMade, sources_of, Met}
-use Rattle.turns.specs.Turns.{sources_at, GatherFits, number_before, sources_before, WhereJoined, join_before, JoinedFits, rotation_answer, RotationDone, measurement_answer, MeasurementDone, PromotionFits, PromotionDone}
+use Rattle.record_steps.specs.Turns.{sources_at, GatherFits, number_before, sources_before, WhereJoined, join_before, JoinedFits, rotation_answer, RotationDone, measurement_answer, MeasurementDone, PromotionFits, PromotionDone}
 use Rattle.walk.proofs.Reaching.{width_next}
 use Rattle.walk.proofs.Joining as J
 use Rattle.walk.proofs.Stepping.{rotation_width, measurement_width}
 use Rattle.walk.proofs.Turning as T
 use Rattle.walk.proofs.Ending as E
 use Rattle.walk.proofs.Ending.{reached_start}
-use Rattle.turns.proofs.Patches.{patch_none}
+use Rattle.record_steps.proofs.Patches.{patch_none}
 use Rattle.walk.proofs.Making.{some_join, no_join}
-use Rattle.turns.proofs.Openings.{rotation_empty}
+use Rattle.record_steps.proofs.Openings.{rotation_empty}
 
 -- a state and buffers that are the same stand for the same walk
 reached_same : {limit k : ℕ} {is : List Instruction} {m : ℕ} {w : Walk} {s u : State} {t : Tally} {c c' : Buffers} → Reached limit k is m w s t c → u ≡ s

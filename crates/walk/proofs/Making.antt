@@ -8,11 +8,11 @@ use native.Mathlib.Omega.{arith}
 use lib.ListN.{length, take, drop, length-append, length-take}
 use Rattle.records.specs.declared.Instruction.{Instruction}
 use Rattle.state.specs.declared.State.{State}
-use Rattle.tally.specs.declared.Joining.{Joining}
-use Rattle.tally.specs.Tally.{joining_of}
-use Rattle.outputs.specs.Buffers.{patch}
-use Rattle.turns.specs.Turns.{join_before, Opened}
-use Rattle.turns.proofs.Patches.{part_of_patch}
+use Rattle.work_sums.specs.declared.Joining.{Joining}
+use Rattle.work_sums.specs.Tally.{joining_of}
+use Rattle.plan_buffers.specs.Buffers.{patch}
+use Rattle.record_steps.specs.Turns.{join_before, Opened}
+use Rattle.record_steps.proofs.Patches.{part_of_patch}
 use Rattle.walk.specs.Looping.{sources_of, Joins}
 
 -- a join is that of the sources, and there are some

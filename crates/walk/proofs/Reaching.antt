@@ -14,18 +14,18 @@ use Rattle.records.specs.Record.{instructions_of}
 use Rattle.records.specs.declared.Instruction.{Instruction}
 use Rattle.records.specs.declared.Instruction.TheVariants.{Promotion, DormantBranch}
 use Rattle.records.proofs.Laws.{instructions_length}
-use Rattle.definition.specs.Lists.{total}
-use Rattle.definition.specs.Components.{live_dimension}
-use Rattle.definition.specs.Walk.{Walk, step, start, walk_from, onward, stopped, no_step, ignored_step, promotion_step, rotation_step, measurement_step}
-use Rattle.definition.specs.Plan.{groups_of}
-use Rattle.definition.specs.Connectivity.{active_start, active_after, is_promotion}
-use Rattle.definition.proofs.Steps.{Stepped, ignored, rotated, promoted, measured, recorded, detected, expected, branched, stepped, Run, done, more}
-use Rattle.definition.proofs.Growth.{row_count, start_wide, run_rotations, run_measurements, AllOf}
-use Rattle.definition.proofs.Tracking.{Tracked, start_tracked, run_tracked}
-use Rattle.definition.proofs.Room.{or-false, Kept, Narrow, width_of, run_kept, start_kept, component_count, rows_most, steps_count, live_dimension_below, groups_most, passed_narrow, passed_promotions}
+use Rattle.plan_spec.specs.Lists.{total}
+use Rattle.plan_spec.specs.Components.{live_dimension}
+use Rattle.plan_spec.specs.Walk.{Walk, step, start, walk_from, onward, stopped, no_step, ignored_step, promotion_step, rotation_step, measurement_step}
+use Rattle.plan_spec.specs.Plan.{groups_of}
+use Rattle.plan_spec.specs.Connectivity.{active_start, active_after, is_promotion}
+use Rattle.plan_spec.proofs.Steps.{Stepped, ignored, rotated, promoted, measured, recorded, detected, expected, branched, stepped, Run, done, more}
+use Rattle.plan_spec.proofs.Growth.{row_count, start_wide, run_rotations, run_measurements, AllOf}
+use Rattle.plan_spec.proofs.Tracking.{Tracked, start_tracked, run_tracked}
+use Rattle.plan_spec.proofs.Room.{or-false, Kept, Narrow, width_of, run_kept, start_kept, component_count, rows_most, steps_count, live_dimension_below, groups_most, passed_narrow, passed_promotions}
 use Rattle.state.specs.declared.State.{State}
-use Rattle.tally.specs.declared.Tally.{Tally}
-use Rattle.outputs.specs.Outputs.{Buffers}
+use Rattle.work_sums.specs.declared.Tally.{Tally}
+use Rattle.plan_buffers.specs.Outputs.{Buffers}
 use Rattle.walk.specs.Walking.{Walkable}
 use Rattle.walk.specs.Looping.{Reached}
 

@@ -15,10 +15,10 @@ use Rattle.kernels.specs.Active.{of_dimension, rotation_kernel, rotation, measur
 use Rattle.kernels.specs.declared.active.PrecomputedActivePauliMeasurementKernel.{PrecomputedActivePauliMeasurementKernel}
 use Rattle.records.specs.declared.Instruction.{Instruction}
 use Rattle.records.specs.declared.Instruction.TheVariants.{Rotation, Promotion, RecordMeasurement, RecordDetector, Measurement, Expectation, DormantBranch}
-use Rattle.definition.specs.Lists.{is_in, place_of}
-use Rattle.definition.specs.Walk.{Walk, Join, join_of, local_action, refuse, when_given, is_none, ignored_step, rotation_step, measurement_step, rotate, measure, step}
-use Rattle.definition.proofs.Steps.{cond_yes, cond_no}
-use Rattle.turns.specs.Turns.{number_before}
+use Rattle.plan_spec.specs.Lists.{is_in, place_of}
+use Rattle.plan_spec.specs.Walk.{Walk, Join, join_of, local_action, refuse, when_given, is_none, ignored_step, rotation_step, measurement_step, rotate, measure, step}
+use Rattle.plan_spec.proofs.Steps.{cond_yes, cond_no}
+use Rattle.record_steps.specs.Turns.{number_before}
 
 -- ---- tests
 

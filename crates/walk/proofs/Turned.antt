@@ -7,10 +7,10 @@ use Rattle.refusals.specs.Numbers.{number_of}
 use Rattle.refusals.specs.declared.Reason.{Reason}
 use Rattle.refusals.proofs.Laws.{err_is}
 use Rattle.records.specs.Record.{instructions_of}
-use Rattle.definition.specs.Walk.{start, walk_from, stopped}
+use Rattle.plan_spec.specs.Walk.{start, walk_from, stopped}
 use Rattle.state.specs.declared.State.{State}
-use Rattle.tally.specs.declared.Tally.{Tally}
-use Rattle.outputs.specs.Outputs.{Buffers}
+use Rattle.work_sums.specs.declared.Tally.{Tally}
+use Rattle.plan_buffers.specs.Outputs.{Buffers}
 use Rattle.walk.specs.Looping.{TurnEnds}
 
 pub turn_stops : (limit k : ℕ) (ws : List ℕ) (i : ℕ) (o : List ℕ) (s : State) (t : Tally) (c : Buffers) (r : Result Unit Reason) (reason : Reason)

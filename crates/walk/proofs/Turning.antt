@@ -21,31 +21,31 @@ use Rattle.kernels.specs.declared.active.PrecomputedActivePauliMeasurementKernel
 use Rattle.records.specs.Record.{instructions_of}
 use Rattle.records.specs.declared.Instruction.{Instruction}
 use Rattle.records.specs.declared.Instruction.TheVariants.{Rotation, Promotion, RecordMeasurement, RecordDetector, Measurement, Expectation, DormantBranch}
-use Rattle.definition.specs.Lists.{concat, remove_at}
-use Rattle.definition.specs.Components.{members_of, size_of, amplitudes, joining_cost, live_dimension, local_mask, two_f}
-use Rattle.definition.specs.Walk.{Walk, Join, join_of, local_action, when_given, no_step, ignored_step, promotion_step, rotation_step, measurement_step, step, start, walk_from, stopped, rotation_row, measurement_row}
-use Rattle.definition.specs.Connectivity.{NoRepeats, ActiveOrder, active_start, active_after}
-use Rattle.definition.proofs.Counting.{same_or_not, length_remove_at}
-use Rattle.definition.proofs.Steps.{cond_yes, cond_no}
-use Rattle.definition.proofs.Growth.{row_count, length_concat}
-use Rattle.definition.proofs.Tracking.{Tracked, tracked_here, target_below, target_members, join_length, join_peak_is, measurement_keeps}
-use Rattle.definition.proofs.WholeWorks.{reached_within}
-use Rattle.definition.proofs.Room.{JoinKept, join_kept, width_of, Enough, enough}
+use Rattle.plan_spec.specs.Lists.{concat, remove_at}
+use Rattle.plan_spec.specs.Components.{members_of, size_of, amplitudes, joining_cost, live_dimension, local_mask, two_f}
+use Rattle.plan_spec.specs.Walk.{Walk, Join, join_of, local_action, when_given, no_step, ignored_step, promotion_step, rotation_step, measurement_step, step, start, walk_from, stopped, rotation_row, measurement_row}
+use Rattle.plan_spec.specs.Connectivity.{NoRepeats, ActiveOrder, active_start, active_after}
+use Rattle.plan_spec.proofs.Counting.{same_or_not, length_remove_at}
+use Rattle.plan_spec.proofs.Steps.{cond_yes, cond_no}
+use Rattle.plan_spec.proofs.Growth.{row_count, length_concat}
+use Rattle.plan_spec.proofs.Tracking.{Tracked, tracked_here, target_below, target_members, join_length, join_peak_is, measurement_keeps}
+use Rattle.plan_spec.proofs.WholeWorks.{reached_within}
+use Rattle.plan_spec.proofs.Room.{JoinKept, join_kept, width_of, Enough, enough}
 use Rattle.state.specs.declared.State.{State}
-use Rattle.tally.specs.declared.Tally.{Tally}
-use Rattle.tally.specs.declared.Joining.{Joining}
-use Rattle.positions.specs.Positions.{local_of}
+use Rattle.work_sums.specs.declared.Tally.{Tally}
+use Rattle.work_sums.specs.declared.Joining.{Joining}
+use Rattle.masks.specs.Positions.{local_of}
 use Rattle.state.specs.Steps.{BeforeJoin, promoted, BeforeRemoval, Removed}
-use Rattle.tally.specs.Tally.{powers, power_left, joining_of, Countable, JoinFits, ignored_tally, joined_tally, rotated_tally, promoted_tally, measured_tally}
-use Rattle.tally.proofs.Sums.{left_below, kept_sum, kept_joined}
-use Rattle.outputs.specs.Buffers.{patch}
-use Rattle.representation.specs.Represents.{Represents}
-use Rattle.representation.proofs.Moving.{represents_promotion, before_removal, represents_removal}
-use Rattle.representation.proofs.Sums.{live_removal, live_promotion}
-use Rattle.outputs.specs.Outputs.{Buffers, SameLengths, lengths_of}
+use Rattle.work_sums.specs.Tally.{powers, power_left, joining_of, Countable, JoinFits, ignored_tally, joined_tally, rotated_tally, promoted_tally, measured_tally}
+use Rattle.work_sums.proofs.Sums.{left_below, kept_sum, kept_joined}
+use Rattle.plan_buffers.specs.Buffers.{patch}
+use Rattle.state_model.specs.Represents.{Represents}
+use Rattle.state_model.proofs.Moving.{represents_promotion, before_removal, represents_removal}
+use Rattle.state_model.proofs.Sums.{live_removal, live_promotion}
+use Rattle.plan_buffers.specs.Outputs.{Buffers, SameLengths, lengths_of}
 use Rattle.walk.specs.Walking.{Begins, Tallied, Walkable}
 use Rattle.walk.specs.Looping.{Reached}
-use Rattle.turns.specs.Turns.{raised, sources_at, GatherFits, number_before, sources_before, WhereJoined, local_action_of, JoinedFits, rotation_answer, RotationDone, measurement_answer, MeasurementDone, PromotionFits, PromotionDone}
+use Rattle.record_steps.specs.Turns.{raised, sources_at, GatherFits, number_before, sources_before, WhereJoined, local_action_of, JoinedFits, rotation_answer, RotationDone, measurement_answer, MeasurementDone, PromotionFits, PromotionDone}
 use Rattle.walk.proofs.Reaching.{few_records, tracked, width_next, made, made_next, kept, live_small, quantum_small, steps_written, rows_written, rotations_wide, measurements_wide, run_next, stops}
 use Rattle.walk.proofs.Joining as J
 use Rattle.walk.proofs.Filling.{begins_patch, begins_more, begins_set, begins_at, begins_row}

@@ -6,18 +6,18 @@ use Rattle.refusals.specs.Numbers.{number_of}
 use Rattle.refusals.specs.declared.Reason.{Reason}
 use Rattle.records.specs.Record.{instructions_of}
 use Rattle.records.specs.declared.Instruction.{Instruction}
-use Rattle.definition.specs.Lists.{concat}
-use Rattle.definition.specs.Walk.{Walk, start, walk_from, stopped}
-use Rattle.definition.proofs.Steps.{Run}
+use Rattle.plan_spec.specs.Lists.{concat}
+use Rattle.plan_spec.specs.Walk.{Walk, start, walk_from, stopped}
+use Rattle.plan_spec.proofs.Steps.{Run}
 use Rattle.state.specs.declared.State.{State}
 use Rattle.state.specs.Steps.{BeforeJoin, Joined, BeforeRemoval, Removed, Closed}
 use Rattle.refusals.specs.Answer.{Answer, given}
 use Rattle.kernels.specs.declared.active.PrecomputedActivePauliMeasurementKernel.{PrecomputedActivePauliMeasurementKernel}
-use Rattle.tally.specs.declared.Tally.{Tally}
-use Rattle.tally.specs.declared.Joining.{Joining}
-use Rattle.representation.specs.Represents.{Ordered, Represents}
-use Rattle.outputs.specs.Outputs.{Buffers, SameLengths}
-use Rattle.turns.specs.Turns.{sources_at, GatherFits, sources_before, WhereJoined, Opened}
+use Rattle.work_sums.specs.declared.Tally.{Tally}
+use Rattle.work_sums.specs.declared.Joining.{Joining}
+use Rattle.state_model.specs.Represents.{Ordered, Represents}
+use Rattle.plan_buffers.specs.Outputs.{Buffers, SameLengths}
+use Rattle.record_steps.specs.Turns.{sources_at, GatherFits, sources_before, WhereJoined, Opened}
 use Rattle.walk.specs.Walking.{Begins, Tallied, Walkable}
 
 -- ---- the loop

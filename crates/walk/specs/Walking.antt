@@ -3,12 +3,12 @@ use Rattle.std.specs.Prelude.{ℕ, ◌/◌, ◌%◌, ◌^◌, ◌≤◌, ◌≡�
 use Rattle.refusals.specs.Numbers.{number_of}
 use Rattle.refusals.specs.declared.Refusal.{Refusal}
 use Rattle.records.specs.Pass.{Passed, record_pass}
-use Rattle.definition.specs.Lists.{concat}
-use Rattle.definition.specs.Components.{live_dimension}
-use Rattle.definition.specs.Walk.{Walk, Walked, finished, stopped}
-use Rattle.definition.specs.Plan.{groups_of, words_refused, buffers_refused}
-use Rattle.tally.specs.declared.Tally.{Tally}
-use Rattle.outputs.specs.Outputs.{Buffers, lengths_of}
+use Rattle.plan_spec.specs.Lists.{concat}
+use Rattle.plan_spec.specs.Components.{live_dimension}
+use Rattle.plan_spec.specs.Walk.{Walk, Walked, finished, stopped}
+use Rattle.plan_spec.specs.Plan.{groups_of, words_refused, buffers_refused}
+use Rattle.work_sums.specs.declared.Tally.{Tally}
+use Rattle.plan_buffers.specs.Outputs.{Buffers, lengths_of}
 use Rattle.walk.specs.declared.Summary.{Summary}
 
 -- the words stand in front

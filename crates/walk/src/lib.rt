@@ -4,25 +4,25 @@
 
 ghost use Rattle.std.specs.Prelude.{◌≡◌, ◌+◌, ◌*◌, ◌<◌, ◌≤◌, ℕ, List, [], ◌∷◌, length, set};
 ghost use Rattle.records.specs.Record.{instructions_of};
-ghost use Rattle.definition.specs.Walk.{start, walk_from};
-ghost use Rattle.outputs.specs.Outputs.{buffers_of};
-ghost use Rattle.outputs.specs.Stored.{SameOutputs};
-ghost use Rattle.outputs.specs.Buffers.{patch};
-ghost use Rattle.rows.specs.Steps.{kind_number};
-ghost use Rattle.turns.specs.Turns.{Settled, JoinedFits, rotation_answer, RotationDone, measurement_answer, MeasurementDone, PromotionFits, PromotionDone};
+ghost use Rattle.plan_spec.specs.Walk.{start, walk_from};
+ghost use Rattle.plan_buffers.specs.Outputs.{buffers_of};
+ghost use Rattle.plan_buffers.specs.Stored.{SameOutputs};
+ghost use Rattle.plan_buffers.specs.Buffers.{patch};
+ghost use Rattle.plan_rows.specs.Steps.{kind_number};
+ghost use Rattle.record_steps.specs.Turns.{Settled, JoinedFits, rotation_answer, RotationDone, measurement_answer, MeasurementDone, PromotionFits, PromotionDone};
 ghost use Rattle.state.specs.Steps.{BeforeJoin, Joined, BeforePromotion, promoted, BeforeRemoval, Removed};
 ghost use Rattle.walk.specs.Walking.{Walkable, WalkEnds};
 ghost use Rattle.walk.specs.Looping.{Looping, Standing, TurnEnds, Joins, JoinMade, Leaves, Measured};
 
 use kernels::active::Angle;
-use outputs::StoredOutputs;
-use outputs::buffers::{fill_ones, write_counts, write_members};
+use plan_buffers::StoredOutputs;
+use plan_buffers::buffers::{fill_ones, write_counts, write_members};
 use records::{Instruction, read};
 use refusals::{Reason, Refusal};
-use rows::{Step, StepKind, put};
+use plan_rows::{Step, StepKind, put};
 use state::{State, append, close_gap, first_order};
-use tally::{Joining, Tally};
-use turns::{Pauli, Turn, measure, open, promote, rotate};
+use work_sums::{Joining, Tally};
+use record_steps::{Pauli, Turn, measure, open, promote, rotate};
 
 // What a finished walk leaves beside the buffers: the sums, how many components were made, and how many words the groups
 // take.

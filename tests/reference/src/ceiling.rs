@@ -1,7 +1,7 @@
 //! The walk under a ceiling below 62 (02, CR 4), made of the Rust's own answers.
 //!
 //! The Rust knows the ceiling 62 only, at which it is the reference and nothing here changes its
-//! answer. Below 62 the definition in crates/definition is the reference, and this is a second
+//! answer. Below 62 the definition in crates/plan_spec is the reference, and this is a second
 //! reading beside it: 14 at the first record whose join makes a component of the ceiling's size or
 //! more, else what the Rust says. The sizes of the joins come from the Rust's plans.
 

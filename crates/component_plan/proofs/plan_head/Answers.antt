@@ -1,8 +1,8 @@
 -- `plan_head` meets its contract: the head decides refusals 24 and 1 and whether the records are read; a plan that reads none leaves zeros.
 use Rattle.std.specs.Prelude.{◌≡◌, true, Ok}
 use Rattle.refusals.specs.Numbers.{number_of}
-use Rattle.definition.specs.Plan.{unread, unread_plan}
-use Rattle.outputs.specs.Outputs.{buffers_of, lengths_of}
+use Rattle.plan_spec.specs.Plan.{unread, unread_plan}
+use Rattle.plan_buffers.specs.Outputs.{buffers_of, lengths_of}
 use Rattle.component_plan.proofs.Refusals.{unread_held, unread_same, unread_small, unread_expected, unread_neither, plan_headless, plan_unread, plan_is_read, filled_planned, filled_same, filled_error}
 use Rattle.component_plan.proofs.plan_head.Goals as goal
 use Rattle.component_plan.proofs.plan_head.Goals.{then-head-lt8-via-then-head-lt8, then-head-lt8-via-else-head-lt8+then-head-ne0}

@@ -6,11 +6,11 @@ use native.Mathlib.Omega.{arith}
 use Rattle.refusals.specs.Numbers.{number_of}
 use Rattle.refusals.proofs.Laws.{positive}
 use Rattle.records.specs.Pass.{Passed, record_pass}
-use Rattle.definition.specs.Walk.{start, walk_from}
-use Rattle.definition.specs.Plan.{after_walk}
+use Rattle.plan_spec.specs.Walk.{start, walk_from}
+use Rattle.plan_spec.specs.Plan.{after_walk}
 use Rattle.records.specs.Record.{instructions_of}
-use Rattle.outputs.specs.Outputs.{buffers_of, lengths_of}
-use Rattle.outputs.proofs.Parts.{all_lengths}
+use Rattle.plan_buffers.specs.Outputs.{buffers_of, lengths_of}
+use Rattle.plan_buffers.proofs.Parts.{all_lengths}
 use Rattle.lent.specs.Lent.{lent_number}
 use Rattle.component_plan.proofs.Refusals.{lent_refused, lent_passed, walk_stops, filled_error}
 use Rattle.component_plan.proofs.Finished.{read_walk, counts_fit, sizes_inside, sizes_below, filled}

@@ -1,6 +1,6 @@
 -- The bytes of the words so far stand in the file from the place on, and all else is as it was.
 use Rattle.std.proofs.Common.{◌≡◌, ◌*◌, take}
-use Rattle.outputs.specs.Buffers.{patch}
+use Rattle.plan_buffers.specs.Buffers.{patch}
 use Rattle.file_words.specs.Words.{word_bytes}
 use Rattle.file_words.proofs.put_words.Given as goal
 

@@ -2,7 +2,7 @@
 use Rattle.std.proofs.Common.{◌≡◌, ℕ, ◌<◌, ◌≤◌, true, false, pos, ◌∙◌, ap₂, le-leb}
 use borrow.Author.Tests.{lt-leb}
 use lib.Ieee.{Float, fin, binary64, mul, sub, le, of_int, of_bits, round}
-use Rattle.definition.specs.Plan.{ratio_f, share_f, chosen}
+use Rattle.plan_spec.specs.Plan.{ratio_f, share_f, chosen}
 use Rattle.lent.proofs.choose.Goals as goal
 
 module _ (quantum : ℕ) (dense component : Float) (allocated peak : ℕ) where

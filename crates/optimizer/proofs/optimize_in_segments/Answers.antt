@@ -6,7 +6,7 @@ use mathlib.Core.Path.{◌∙◌, ap₂, subst}
 use Rattle.std.proofs.lemmas.List.{length-take, length-drop, length-append, take-append-le, take_at, drop_at}
 use Rattle.pending.specs.Operation.{operations_of}
 use Rattle.pending.proofs.Chunks.{count, joined_take}
-use Rattle.passes.specs.Optimizing.{ends_of, segments_of, mapped, operations_in, in_segments}
+use Rattle.optimizer_spec.specs.Optimizing.{ends_of, segments_of, mapped, operations_in, in_segments}
 use Rattle.optimizer.specs.Working.{bare, mark, Finished}
 use Rattle.optimizer.specs.Answer.{held}
 use Rattle.optimizer.proofs.Holding.{by_entries, zeros_behind}

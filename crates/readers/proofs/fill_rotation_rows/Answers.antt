@@ -1,6 +1,6 @@
 -- `readers::fill_rotation_rows` meets its contract: each turn puts the next row's struct in its place, so at the end every struct is filled.
 use Rattle.std.proofs.Common.{length, arith}
-use Rattle.definition.proofs.Filled.{filled_all}
+use Rattle.plan_spec.proofs.Filled.{filled_all}
 use Rattle.readers.specs.Reading.{rotation_or_zero}
 use Rattle.readers.proofs.fill_rotation_rows.Goals as goal
 

@@ -1,6 +1,6 @@
 -- `state::first_order` meets its contract. The loop's invariant: the entries below i are their own positions, and every entry stands below 512.
 use Rattle.std.proofs.Common.{ℕ, ◌≡◌, refl, arith, below_none, length-set, rules}
-use Rattle.positions.proofs.Arrays.{zeros_small, store_below, store_all}
+use Rattle.masks.proofs.Arrays.{zeros_small, store_below, store_all}
 use Rattle.state.proofs.first_order.Goals as goal
 
 pub loop-i-init : goal.loop-i-init

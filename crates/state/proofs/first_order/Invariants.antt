@@ -1,5 +1,5 @@
 use Rattle.std.proofs.Common.{ℕ, ◌≡◌, ◌<◌, length, get_or}
-use Rattle.positions.specs.Positions.{Below512}
+use Rattle.masks.specs.Positions.{Below512}
 use Rattle.state.proofs.first_order.Given as goal
 
 abbrev pub invariant-loop-i : goal.invariant-loop-i

@@ -3,8 +3,8 @@ use Rattle.std.proofs.Common.{arith, sym, Err, Ok}
 use mathlib.Core.Path.{subst}
 use Prim.Native.Nat.{ℕ, ◌*◌}
 use Rattle.refusals.specs.declared.Refusal.{Refusal}
-use Rattle.outputs.specs.Outputs.{buffers_of}
-use Rattle.outputs.proofs.Parts.{all_lengths}
+use Rattle.plan_buffers.specs.Outputs.{buffers_of}
+use Rattle.plan_buffers.proofs.Parts.{all_lengths}
 use Rattle.store.specs.Storing.{Stores}
 use Rattle.store.proofs.Answering.{words_small, stores_short, stores_file}
 use Rattle.store.proofs.store.Goals as goal

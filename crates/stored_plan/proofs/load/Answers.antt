@@ -7,8 +7,8 @@ use Rattle.std.proofs.Common.{rules, get_or}
 use Rattle.file_words.specs.Words.{words_at}
 use Rattle.std.specs.Prelude.{ℕ}
 use Rattle.refusals.proofs.Laws.{positive}
-use Rattle.outputs.specs.declared.WordCounts.{WordCounts}
-use Rattle.outputs.specs.Stored.{Outputs, lengths_of, outputs_of}
+use Rattle.plan_buffers.specs.declared.WordCounts.{WordCounts}
+use Rattle.plan_buffers.specs.Stored.{Outputs, lengths_of, outputs_of}
 use Rattle.stored_plan.specs.Reading.{Read, read_file}
 use Rattle.stored_plan.specs.Loading.{number_of, given, outcome_in, Restored, trailer_in, counts_in}
 use Rattle.stored_plan.proofs.Accepting.{counts_are, accepted, refused_is, Room}

@@ -1,8 +1,8 @@
 -- A buffer that has been passed is the used words and zeros behind them.
 use Rattle.std.proofs.Common.{◌≡◌, refl, sym, ap, ◌∙◌, arith, ◌+◌, ◌-◌, ℕ, List, length, replicate}
 use Rattle.std.proofs.lemmas.List.{ext_get_or, length-append, length-replicate}
-use Rattle.definition.specs.Plan.{padded}
-use Rattle.definition.proofs.Padded.{zeroed_at}
+use Rattle.plan_spec.specs.Plan.{padded}
+use Rattle.plan_spec.proofs.Padded.{zeroed_at}
 use Rattle.vectors.proofs.holds.Goals as goal
 
 -- the words and zeros are as many as they should be, or as the words where these are more

@@ -4,10 +4,10 @@ use Rattle.std.proofs.Common.{rules, Err, sym, ap}
 use mathlib.Core.Path.{subst}
 use Rattle.refusals.specs.Numbers.{number_of}
 use Rattle.refusals.specs.declared.Refusal.{Refusal}
-use Rattle.definition.specs.Walk.{Walked}
+use Rattle.plan_spec.specs.Walk.{Walked}
 use Rattle.walk.specs.Walking.{WalkEnds}
 use native.Mathlib.Omega.{arith}
-use Rattle.outputs.specs.Outputs.{buffers_of}
+use Rattle.plan_buffers.specs.Outputs.{buffers_of}
 use Rattle.walk.proofs.Looping.{begins, count_small, groups_fit, places_fit, finishes}
 use Rattle.walk.proofs.walk.Goals as goal
 

@@ -5,7 +5,7 @@ use Rattle.std.specs.List.{list_any}
 use mathlib.Core.Path.{◌∙◌}
 use Rattle.refusals.specs.Numbers as Reasons
 use Rattle.pending.proofs.Chunks.{count}
-use Rattle.passes.specs.Optimizing.{refused}
+use Rattle.optimizer_spec.specs.Optimizing.{refused}
 use Rattle.optimizer.specs.declared.checks.Verdict.TheVariants.{AsItIs, InSegments}
 use Rattle.optimizer.proofs.Judging.{by_answers, sound}
 use Rattle.optimizer.proofs.checks.check_call.Goals as goal

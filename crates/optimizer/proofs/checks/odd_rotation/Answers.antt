@@ -3,7 +3,7 @@ use Rattle.std.proofs.Common.{sym, arith}
 use mathlib.Core.Path.{◌∙◌}
 use Rattle.pending.specs.Operation.{operations_of}
 use Rattle.pending.proofs.Chunks.{count}
-use Rattle.passes.specs.Optimizing.{is_odd_rotation}
+use Rattle.optimizer_spec.specs.Optimizing.{is_odd_rotation}
 use Rattle.optimizer.proofs.Laws.{nowhere}
 use Rattle.optimizer.proofs.checks.odd_rotation.Goals as goal
 

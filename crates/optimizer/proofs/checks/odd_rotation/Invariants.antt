@@ -1,7 +1,7 @@
 use Rattle.std.proofs.Common.{◌≡◌, drop}
 use Rattle.std.specs.List.{position_from}
 use Rattle.pending.specs.Operation.{operations_of}
-use Rattle.passes.specs.Optimizing.{is_odd_rotation}
+use Rattle.optimizer_spec.specs.Optimizing.{is_odd_rotation}
 use Rattle.optimizer.proofs.checks.odd_rotation.Given as goal
 
 -- what is left decides

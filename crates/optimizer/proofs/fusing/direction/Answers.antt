@@ -1,7 +1,7 @@
 -- `optimizer::fusing::direction` meets its contract: its two constants are 1 and -1 by their bits.
 use Rattle.std.proofs.Common.{rules}
 use lib.Ieee.{of_bits, neg}
-use Rattle.passes.specs.Passes.{direction}
+use Rattle.optimizer_spec.specs.Passes.{direction}
 use Rattle.optimizer.proofs.fusing.direction.Goals as goal
 
 pub returns-then-whole_sign : goal.returns-then-whole_sign

@@ -3,7 +3,7 @@ use Rattle.std.proofs.Common.{◌≡◌, ◌+◌, ◌-◌, ◌*◌, [], length, 
 use mathlib.Core.Path.{◌∙◌, ap₂}
 use Rattle.pending.specs.Operation.{operations_of, y_count, whole_sign}
 use Rattle.pending.proofs.Chunks.{operation_in, operation_length, lent}
-use Rattle.passes.specs.Passes.{fused_angle, cancels}
+use Rattle.optimizer_spec.specs.Passes.{fused_angle, cancels}
 use Rattle.optimizer.specs.Working.{is_zero}
 use Rattle.optimizer.proofs.Laws.{met_is}
 use Rattle.optimizer.proofs.fusing.meet.Goals as goal

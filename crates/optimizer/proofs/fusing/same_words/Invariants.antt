@@ -1,5 +1,5 @@
 use Rattle.std.proofs.Common.{◌≡◌, drop}
-use Rattle.passes.specs.Passes.{same_words}
+use Rattle.optimizer_spec.specs.Passes.{same_words}
 use Rattle.optimizer.proofs.fusing.same_words.Given as goal
 
 -- the words that are left decide

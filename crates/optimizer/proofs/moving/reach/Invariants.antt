@@ -1,6 +1,6 @@
 use Rattle.std.proofs.Common.{◌≡◌, [], get_or}
 use Rattle.pending.specs.Operation.{operations_of}
-use Rattle.passes.specs.Passes.{reach}
+use Rattle.optimizer_spec.specs.Passes.{reach}
 use Rattle.optimizer.specs.Working.{before}
 use Rattle.optimizer.proofs.Reaching.{found}
 use Rattle.optimizer.proofs.moving.reach.Given as goal

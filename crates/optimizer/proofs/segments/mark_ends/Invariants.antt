@@ -1,7 +1,7 @@
 use Rattle.std.proofs.Common.{◌≡◌, ℕ, ◌<◌, List, cond, length, get_or, take}
 use Rattle.std.specs.Prelude.{eqb}
 use Rattle.std.specs.List.{list_any}
-use Rattle.passes.specs.Optimizing.{no_boundary}
+use Rattle.optimizer_spec.specs.Optimizing.{no_boundary}
 use Rattle.optimizer.proofs.segments.mark_ends.Given as goal
 
 -- the prefixes so far are marked, and nothing else

@@ -5,7 +5,7 @@ use Rattle.std.proofs.lemmas.List.{length-take, length-drop}
 use borrow.Rule.Slice.PartMut.{put_mid}
 use Rattle.pending.specs.Operation.{Operation, operations_of}
 use Rattle.pending.proofs.Chunks.{count}
-use Rattle.passes.specs.Passes.{segment_of}
+use Rattle.optimizer_spec.specs.Passes.{segment_of}
 use Rattle.optimizer.specs.Working.{live, Leaves}
 use Rattle.optimizer.proofs.Parts.{part_is, lent_part, in_front, from_front, behind}
 use Rattle.optimizer.proofs.Segmenting.{leaves_front}

@@ -4,7 +4,7 @@ use Prim.Native.Nat.{ℕ, ◌<◌, ◌≤◌}
 use native.Mathlib.Omega.{arith}
 use lib.ListN.{get_or, length-set}
 use Rattle.state.specs.Steps.{skip, lowered}
-use Rattle.positions.proofs.Arrays.{store_below, store_above, store_all}
+use Rattle.masks.proofs.Arrays.{store_below, store_above, store_all}
 use Rattle.state.proofs.Numbers.{skip_near}
 use Rattle.state.proofs.State.remove.Goals as goal
 

@@ -1,0 +1,80 @@
+-- 02, CR 3: what stands in the merge list for a join, "after the target ... all other touched components, each once, strictly ascending, and nothing else". Touched and
+-- target are 01's sentences, section 4, over the active order and the members of each component by number; nothing here says how sources are found.
+use Rattle.std.specs.Prelude.{ℕ, ◌+◌, ◌≤◌, ◌<◌, ◌≡◌, ◌⊎◌, List, [], ◌∷◌, length, get_or, take}
+use Rattle.kernels.specs.Bits.{bit_at}
+use Rattle.records.specs.declared.Instruction.{Instruction}
+use Rattle.records.specs.declared.Instruction.TheVariants.{Rotation, Promotion, RecordMeasurement, RecordDetector, Measurement, Expectation, DormantBranch}
+use Rattle.plan_spec.specs.Components.{members_of}
+use Rattle.plan_spec.specs.Walk.{Walk, join_of}
+use Rattle.plan_spec.specs.Plan.{Plan}
+use Rattle.plan_spec.specs.Connectivity.{Member, NoRepeats, active_start, active_after, Replayed, kind_at, payload_at, rotation_at, measurement_at, listed_by, replay_after}
+
+-- ---- the sources of a join
+
+-- "the active positions below k set in x or z"; k, "the active width before an instruction", is the length of the order
+abbrev pub SetBelow : ℕ → ℕ → ℕ → ℕ → Type 0
+SetBelow k x z p = (p < k) × ((bit_at x p ≡ 1) ⊎ (bit_at z p ≡ 1))
+
+-- "Touched: components of the active positions below k set in x or z; if none, the component of the first active coordinate"
+pub data Touched (order : List ℕ) (components : Replayed) (x z c : ℕ) : Type 0 where
+  position : (p : ℕ) → SetBelow (length order) x z p → Member (get_or order p 0) (components c) → Touched order components x z c
+  first : ((p : ℕ) → SetBelow (length order) x z p → ⊥) → 0 < length order → Member (get_or order 0 0) (components c) → Touched order components x z c
+
+-- "Target: the largest touched, smallest number on a tie"
+pub record Target (order : List ℕ) (components : Replayed) (x z target : ℕ) : Type 0 where
+  pub touched : Touched order components x z target
+  pub largest : (c : ℕ) → Touched order components x z c → length (components c) ≤ length (components target)
+  pub smallest : (c : ℕ) → Touched order components x z c → length (components c) ≡ length (components target) → target ≤ c
+
+-- "strictly ascending": each entry is below all that stand after it
+pub data Ascending : List ℕ → Type 0 where
+  none : Ascending []
+  more : {a : ℕ} {xs : List ℕ} → ((b : ℕ) → Member b xs → a < b) → Ascending xs → Ascending (a ∷ xs)
+
+-- "after the target stand all other touched components, each once, strictly ascending, and nothing else". `Sources.sources_unique`: one list only is that
+pub record Sources (order : List ℕ) (components : Replayed) (x z : ℕ) (listed : List ℕ) : Type 0 where
+  pub target : ℕ
+  pub others : List ℕ
+  pub parts : listed ≡ target ∷ others
+  pub chosen : Target order components x z target
+  pub all : (c : ℕ) → Touched order components x z c → Member c listed
+  pub once : NoRepeats listed
+  pub ascending : Ascending others
+  pub nothing_else : (c : ℕ) → Member c listed → Touched order components x z c
+
+-- the sources of the join that any masks make in this state of the walk
+abbrev pub JoinsListed : Walk → Type 0
+JoinsListed w = (x z : ℕ) → 0 < length w.order → Sources w.order (members_of w.components) x z (join_of x z w).sources
+
+-- ---- the rows of a plan
+
+-- the row of record m's join: its part lies inside the merge list and is the join's sources, of which the first is the row's component
+pub record Listed (p : Plan) (m kind : ℕ) (row order : List ℕ) (x z : ℕ) : Type 0 where
+  pub kind_is : kind_at p m ≡ kind
+  pub inside : get_or row 1 0 + get_or row 2 0 ≤ length p.merges
+  pub component : get_or row 0 0 ≡ get_or (listed_by p row) 0 0
+  pub sources : Sources order (replay_after p m) x z (listed_by p row)
+
+-- step m names no row that has a part of the merge list
+abbrev pub NoPart : Plan → ℕ → Type 0
+NoPart p m = (kind_at p m ≡ 2 → ⊥) × (kind_at p m ≡ 4 → ⊥)
+
+-- record m, with the order before it: a rotation where coordinates are active and a flag-0 measurement join, and no other record does
+unfoldable pub ListedClaim : Plan → ℕ → List ℕ → Instruction → Type 0
+ListedClaim p m order (Rotation width x z phase angle sine cosine) = ((order ≡ []) × NoPart p m) ⊎ Listed p m 2 (rotation_at p m) order x z
+ListedClaim p m order (Measurement width x z phase pivot) = Listed p m 4 (measurement_at p m) order x z
+ListedClaim p m order Promotion = NoPart p m
+ListedClaim p m order RecordMeasurement = NoPart p m
+ListedClaim p m order RecordDetector = NoPart p m
+ListedClaim p m order Expectation = NoPart p m
+ListedClaim p m order DormantBranch = NoPart p m
+
+-- row i of a kind is that of a record
+abbrev pub RowOf : ℕ → Plan → ℕ → ℕ → Type 0
+RowOf records p kind i = (m : ℕ) × (m < records) × (kind_at p m ≡ kind) × (payload_at p m ≡ i)
+
+-- CR 3 of a plan of so many rotation rows and measurement rows: each join's row lists its sources, and each row is that of a join
+pub record SourcesListed (k : ℕ) (is : List Instruction) (p : Plan) (rotations measurements : ℕ) : Type 0 where
+  pub joins : (m : ℕ) → m < length is → ListedClaim p m (active_after (active_start k) (take m is)).order (get_or is m DormantBranch)
+  pub rotation : (i : ℕ) → i < rotations → RowOf (length is) p 2 i
+  pub measurement : (i : ℕ) → i < measurements → RowOf (length is) p 4 i

@@ -1,0 +1,238 @@
+// What a record does besides changing the state: the sources of its join before, its row, its step and its sums after.
+#![tactic(auto)]
+
+ghost use Rattle.std.specs.Prelude.{◌≡◌, ◌+◌, ◌*◌, ◌%◌, ◌^◌, ◌<◌, ◌≤◌, length};
+ghost use Rattle.plan_buffers.specs.Buffers.{patch};
+ghost use Rattle.masks.specs.Positions.{local_of};
+ghost use Rattle.refusals.specs.Answer.{answer_of, given};
+ghost use Rattle.work_sums.specs.Tally.{joining_of};
+ghost use Rattle.record_steps.specs.Turns.{sources_at, GatherFits, WhereJoined, Opened, local_action_of, Settled, JoinedFits, pivot_answer, rotation_answer, RotationDone, measurement_answer, MeasurementDone, PromotionFits, PromotionDone};
+
+use kernels::active::{
+    ActivePauliAction, Angle, PrecomputedActivePauliMeasurementKernel,
+    PrecomputedActivePauliRotationKernel,
+};
+use plan_buffers::buffers::raise_size;
+use masks::{below_width, local_mask, reached_positions, write_sources};
+use records::Instruction;
+use refusals::Reason;
+use plan_rows::{MeasurementRow, RotationRow, RowHead, Step, StepKind, put};
+use work_sums::{Joining, Tally, join_of};
+
+// A record's Pauli: its X and Z bits by active position, and its phase exponent.
+#[derive(Clone, Copy, Debug, PartialEq, Eq)]
+pub struct Pauli {
+    pub x: u64,
+    pub z: u64,
+    pub phase: u64,
+}
+
+// A record's turn: its index, how many coordinates are active before it, and the size that a component has to be below.
+#[derive(Clone, Copy, Debug, PartialEq, Eq)]
+pub struct Turn {
+    pub index: usize,
+    pub width: u64,
+    pub limit: u64,
+}
+
+// The join of the components that the masks reach, whose sources are written into the merge list from the offset on.
+// Kept: here, below and in `masks`, on which `state` builds, components and sizes are lent one by one: they are all that is
+// read of the state's five fields, and a struct of the two would be made for the call.
+fn gather<'a>(
+    component: &'a [u16; 512],
+    size: &'a [u8; 512],
+    x: u64,
+    z: u64,
+    width: u64,
+    offset: usize,
+    merges: &mut [u64],
+) -> Joining
+    requires { GatherFits component.now size.now width offset (length merges.old) x z }
+    ensures { (result ≡ joining_of size.now (sources_at component.now size.now width x z))
+        × (merges.new ≡ patch offset (sources_at component.now size.now width x z) merges.old) }
+{
+    let mask = reached_positions(below_width(x, width), below_width(z, width));
+    let count = write_sources(component, size, mask, &mut merges[offset..]);
+    let end = offset + count;
+    join_of(size, &merges[offset..end])
+}
+
+// The join that a record makes, or none where it makes none, or refusal 11, 12 or 13.
+#[tactic(auto, using(crate::proofs::Patches::patch_none), unfolding(crate::specs::Turns::number_before, crate::specs::Turns::sources_before, masks::specs::Positions::sources_in))]
+pub fn open<'a>(
+    instruction: Instruction,
+    width: u64,
+    offset: usize,
+    component: &'a [u16; 512],
+    size: &'a [u8; 512],
+    merges: &mut [u64],
+) -> Result<Option<Joining>, Reason>
+    requires { WhereJoined width (λ x z. GatherFits component.now size.now width offset (length merges.old) x z) instruction }
+    ensures { Opened width offset component.now size.now instruction result merges.old merges.new }
+{
+    match instruction {
+        Instruction::Rotation { width: w, x, z, .. } => {
+            if w != width {
+                return Err(Reason::RotationWidth);
+            }
+            if width == 0 {
+                return Ok(None);
+            }
+            let join = gather(component, size, x, z, width, offset, merges);
+            Ok(Some(join))
+        }
+        Instruction::Measurement { width: w, x, z, .. } => {
+            if w != width {
+                return Err(Reason::MeasurementWidth);
+            }
+            if width == 0 {
+                return Err(Reason::NothingActive);
+            }
+            let join = gather(component, size, x, z, width, offset, merges);
+            Ok(Some(join))
+        }
+        _ => Ok(None),
+    }
+}
+
+// The action of a Pauli on a component of a size, by the places of its positions.
+fn local_action(place: &[u8; 512], pauli: Pauli, width: u64, size: u64) -> ActivePauliAction
+    requires x_fits { local_of (pauli.x % 2 ^ width) place.now < 2 ^ 64 }
+    requires z_fits { local_of (pauli.z % 2 ^ width) place.now < 2 ^ 64 }
+    ensures { result ≡ local_action_of place.now pauli.x pauli.z pauli.phase width size }
+{
+    let local_x = local_mask(place, below_width(pauli.x, width));
+    let local_z = local_mask(place, below_width(pauli.z, width));
+    ActivePauliAction::new(size, local_x, local_z, pauli.phase)
+}
+
+// What a row says of its join.
+fn head_of(join: Joining, tally: Tally) -> RowHead
+    ensures { result ≡ record { component = join.target; merge_offset = tally.merges; merge_count = join.count } }
+{
+    RowHead {
+        component: join.target,
+        merge_offset: tally.merges as u64,
+        merge_count: join.count as u64,
+    }
+}
+
+// The step of a record whose row has this number.
+fn step_of(kind: StepKind, row: usize) -> Step
+    ensures { result ≡ record { kind = kind; payload = row } }
+{
+    Step {
+        kind,
+        payload: row as u64,
+    }
+}
+
+// Writes the row, the step and the longest size of a rotation, or gives refusal 14.
+// Kept: of the lent buffers, only the three that it writes, so that its contract need not say that the others are as they were. And
+// Here, in `measure` and in the walk Pauli, join and turn are three structs, which the record, its sources and the walk give; one of
+// all three would be made for a call, and could not hold `joined_fits`, which speaks of the places, the sums and the buffers too.
+pub fn rotate(
+    pauli: Pauli,
+    angle: Angle,
+    join: Joining,
+    turn: Turn,
+    tally: Tally,
+    place: &[u8; 512],
+    steps: &mut [u64],
+    sizes: &mut [u64],
+    rotations: &mut [u64],
+) -> Result<Tally, Reason>
+    requires joined_fits { JoinedFits place.now pauli.x pauli.z turn.width turn.index join tally steps.old sizes.old }
+    requires row_room { 21 * tally.rotations + 21 ≤ length rotations.old }
+    ensures { Settled (rotation_answer turn.limit place.now pauli.x pauli.z pauli.phase angle.value angle.sine angle.cosine turn.width join.size) result
+        (λ next. RotationDone turn.width turn.index join tally next steps.old sizes.old rotations.old steps.new sizes.new rotations.new) }
+{
+    let action = local_action(place, pauli, turn.width, join.size);
+    let kernel = PrecomputedActivePauliRotationKernel::new(action, pauli.phase, angle, turn.limit)?;
+    let head = head_of(join, tally);
+    put(rotations, tally.rotations, RotationRow { head, kernel });
+    let step = step_of(StepKind::Rotation, tally.rotations);
+    put(steps, turn.index, step);
+    raise_size(sizes, join.target as usize, join.size);
+    Ok(tally.rotated(join, turn.width))
+}
+
+// Refusal 14, 15 or 16 of a measurement.
+fn check_pivot(component: &[u16; 512], pivot: u64, join: Joining, turn: Turn) -> Result<(), Reason>
+    requires { turn.width < 64 }
+    ensures { answer_of result ≡ pivot_answer turn.limit component.now pivot turn.width join (given tt) }
+{
+    if turn.limit <= join.size {
+        return Err(Reason::ComponentSize);
+    }
+    if turn.width <= pivot {
+        return Err(Reason::Pivot);
+    }
+    let at = pivot as usize;
+    if u64::from(component[at]) == join.target {
+        Ok(())
+    } else {
+        Err(Reason::PivotComponent)
+    }
+}
+
+// Writes the row, the step and the longest size of a measurement, or gives refusal 14 to 20.
+// Kept: of the lent buffers, only the three that it writes, so that its contract need not say that the others are as they were.
+pub fn measure<'a>(
+    pauli: Pauli,
+    pivot: u64,
+    join: Joining,
+    turn: Turn,
+    tally: Tally,
+    component: &'a [u16; 512],
+    place: &'a [u8; 512],
+    steps: &mut [u64],
+    sizes: &mut [u64],
+    measurements: &mut [u64],
+) -> Result<Tally, Reason>
+    requires joined_fits { JoinedFits place.now pauli.x pauli.z turn.width turn.index join tally steps.old sizes.old }
+    requires row_room { 19 * tally.measurements + 19 ≤ length measurements.old }
+    ensures { Settled (measurement_answer turn.limit component.now place.now pauli.x pauli.z pauli.phase pivot turn.width join) result
+        (λ next. MeasurementDone turn.width turn.index join tally next steps.old sizes.old measurements.old steps.new sizes.new measurements.new) }
+{
+    check_pivot(component, pivot, join, turn)?;
+    let action = local_action(place, pauli, turn.width, join.size);
+    let local = u64::from(place[pivot as usize]);
+    let kernel = PrecomputedActivePauliMeasurementKernel::with_pivot(
+        action,
+        pauli.phase,
+        local,
+        turn.limit,
+    )?;
+    let measured = MeasurementRow {
+        head: head_of(join, tally),
+        kernel,
+        deactivated: join.size == 1,
+    };
+    put(measurements, tally.measurements, measured);
+    let step = step_of(StepKind::Measurement, tally.measurements);
+    put(steps, turn.index, step);
+    raise_size(sizes, join.target as usize, join.size);
+    Ok(tally.measured(join, turn.width))
+}
+
+// Writes the row, the step and the longest size of a promotion, whose component has the next number.
+// Kept: of the lent buffers, only the three that it writes, so that its contract need not say that the others are as they were.
+pub fn promote(
+    next: usize,
+    turn: Turn,
+    tally: Tally,
+    steps: &mut [u64],
+    sizes: &mut [u64],
+    promotions: &mut [u64],
+) -> Tally
+    requires { PromotionFits next turn.width turn.index tally steps.old sizes.old promotions.old }
+    ensures { PromotionDone next turn.width turn.index tally result steps.old sizes.old promotions.old steps.new sizes.new promotions.new }
+{
+    let row = tally.promotions;
+    promotions[row] = next as u64;
+    let step = step_of(StepKind::Promotion, row);
+    put(steps, turn.index, step);
+    sizes[next] = 1;
+    tally.promoted(turn.width)
+}
