@@ -1,5 +1,5 @@
-// The planner's answer where it refuses nothing: the scalar fields of a plan with its whole works and the words it uses; and the
-// two ways a plan comes about, from a finished walk and with no record read.
+//! The planner's answer where it refuses nothing: the scalar fields of a plan with its whole works and the words it uses; and the
+//! two ways a plan comes about, from a finished walk and with no record read.
 #![tactic(auto)]
 
 ghost use Rattle.std.specs.Prelude.{◌≡◌, false, pos, ◌*◌, Ok};
@@ -14,7 +14,7 @@ use plan_buffers::WordCounts;
 use work_sums::WholeWorks;
 use walk::Summary;
 
-// The scalar fields of a plan, its works as whole numbers, and how many words of the first six outputs it uses.
+/// The scalar fields of a plan, its works as whole numbers, and how many words of the first six outputs it uses.
 #[derive(Clone, Copy, Debug, PartialEq)]
 pub struct ActiveComponentPlan {
     pub selected: bool,
@@ -29,7 +29,7 @@ pub struct ActiveComponentPlan {
     pub used: WordCounts,
 }
 
-// The scalar fields of a plan that reads no record.
+/// The scalar fields of a plan that reads no record.
 pub fn unread_plan(initial_k: u64, dense_peak: u64) -> ActiveComponentPlan
     ensures { result ≡ record {
       selected = false;
@@ -58,7 +58,7 @@ pub fn unread_plan(initial_k: u64, dense_peak: u64) -> ActiveComponentPlan
     }
 }
 
-// The scalar fields of the plan of a finished walk over n records.
+/// The scalar fields of the plan of a finished walk over n records.
 pub fn plan_of(
     initial_k: u64,
     dense_peak: u64,

@@ -1,4 +1,4 @@
-// The component planner: the plan of a program, written into seven lent buffers.
+//! The component planner: the plan of a program, written into seven lent buffers.
 #![tactic(auto)]
 
 ghost use Rattle.std.specs.Prelude.{◌≡◌, ◌≤◌, length, take};
@@ -64,7 +64,7 @@ fn plan_head(
     plan_read(head, peak, records, out, groups)
 }
 
-// The plan of a program, or its first refusal, after which all seven buffers are zero.
+/// The plan of a program, or its first refusal, after which all seven buffers are zero.
 pub fn build_active_component_plan(
     head: Head,
     records: &[u64],

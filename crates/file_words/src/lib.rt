@@ -1,11 +1,11 @@
-// Words of 64 bits in a file of bytes, the lowest byte first: written from a place on and read at a place.
+//! Words of 64 bits in a file of bytes, the lowest byte first: written from a place on and read at a place.
 #![tactic(auto)]
 
 ghost use Rattle.std.specs.Prelude.{◌≡◌, ◌+◌, ◌*◌, ◌≤◌, length};
 ghost use Rattle.plan_buffers.specs.Buffers.{patch};
 ghost use Rattle.file_words.specs.Words.{word_bytes, word_at, words_at};
 
-// Writes words into a file, the first as word number `at`.
+/// Writes words into a file, the first as word number `at`.
 pub fn put_words(words: &[u64], file: &mut [u8], at: usize)
     requires { 8 * (at + length words.now) ≤ length file.old }
     ensures { file.new ≡ patch (8 * at) (word_bytes words.now) file.old }
@@ -16,7 +16,7 @@ pub fn put_words(words: &[u64], file: &mut [u8], at: usize)
     }
 }
 
-// Word number i of a file.
+/// Word number i of a file.
 pub fn word_at(file: &[u8], i: usize) -> u64
     requires { 8 * (i + 1) ≤ length file.now }
     ensures { result ≡ word_at file.now i }
@@ -25,7 +25,7 @@ pub fn word_at(file: &[u8], i: usize) -> u64
     u64::from_le_bytes(*file[place..].first_chunk().unwrap())
 }
 
-// Reads words from word number `at` on, as many as there is room for.
+/// Reads words from word number `at` on, as many as there is room for.
 pub fn get_words(file: &[u8], at: usize, words: &mut [u64])
     requires { 8 * (at + length words.old) ≤ length file.now }
     ensures { words.new ≡ words_at file.now at (length words.old) }

@@ -1,5 +1,5 @@
-// The action of one Pauli on a register, and the two kernels that are made of it: a rotation's, and a measurement's
-// around a pivot.
+//! The action of one Pauli on a register, and the two kernels that are made of it: a rotation's, and a measurement's
+//! around a pivot.
 ghost use Rattle.std.specs.Prelude.{◌≡◌};
 ghost use Rattle.refusals.specs.Answer.{given, answer_of};
 ghost use Rattle.kernels.specs.Bits.{dimension};
@@ -9,13 +9,14 @@ use crate::bits::{active_length, bit_at, highest_set_bit, is_odd_popcount, witho
 use refusals::Reason;
 use std::ops::Neg;
 
+/// A complex number.
 #[derive(Clone, Copy, Debug, PartialEq)]
 pub struct Complex64 {
     pub re: f64,
     pub im: f64,
 }
 
-// The angle of a rotation, with its sine and cosine.
+/// The angle of a rotation, with its sine and cosine.
 #[derive(Clone, Copy, Debug, PartialEq)]
 pub struct Angle {
     pub value: f64,
@@ -23,8 +24,8 @@ pub struct Angle {
     pub cosine: f64,
 }
 
-// A Pauli as one word of X bits and one of Z bits. A basis index that overlaps the Z bits in an odd number of places
-// takes the odd phase, and any other the even one.
+/// A Pauli as one word of X bits and one of Z bits. A basis index that overlaps the Z bits in an odd number of places
+/// takes the odd phase, and any other the even one.
 #[derive(Clone, Copy, Debug, PartialEq)]
 pub struct ActivePauliAction {
     pub nqubits: u64,
@@ -35,6 +36,8 @@ pub struct ActivePauliAction {
     pub xz_overlap_odd: bool,
 }
 
+/// What applies a rotation to the amplitudes of one component: its action, how it pairs amplitudes,
+/// and its coefficients.
 #[derive(Clone, Copy, Debug, PartialEq)]
 pub struct PrecomputedActivePauliRotationKernel {
     pub action: ActivePauliAction,
@@ -49,6 +52,8 @@ pub struct PrecomputedActivePauliRotationKernel {
     pub minus_even_coefficient: Complex64,
 }
 
+/// What applies a measurement to the amplitudes of one component: its action, its pivot, and how
+/// many amplitudes it leaves.
 #[derive(Clone, Copy, Debug, PartialEq)]
 pub struct PrecomputedActivePauliMeasurementKernel {
     pub action: ActivePauliAction,
@@ -63,7 +68,7 @@ pub struct PrecomputedActivePauliMeasurementKernel {
 // 1 over the square root of 2.
 const INV_SQRT2: f64 = 0.7071067811865476;
 
-// The imaginary unit to the power of the phase exponent, which counts modulo 4.
+/// The imaginary unit to the power of the phase exponent, which counts modulo 4.
 pub fn phase_factor(phase: u64) -> Complex64
     ensures { result ≡ phase_factor phase }
 {
@@ -93,7 +98,7 @@ impl Neg for Complex64 {
 }
 
 impl ActivePauliAction {
-    // The action of a Pauli of a width with these masks and this phase exponent.
+    /// The action of a Pauli of a width with these masks and this phase exponent.
     pub fn new(nqubits: u64, xmask: u64, zmask: u64, phase: u64) -> Self
         ensures { result ≡ action nqubits xmask zmask phase }
     {
@@ -169,7 +174,7 @@ fn rotation_kernel(
 }
 
 impl PrecomputedActivePauliRotationKernel {
-    // The rotation kernel of an action with this phase exponent and angle.
+    /// The rotation kernel of an action with this phase exponent and angle.
     pub fn new(
         action: ActivePauliAction,
         phase: u64,
@@ -242,7 +247,7 @@ fn diagonal_kernel(
 }
 
 impl PrecomputedActivePauliMeasurementKernel {
-    // The measurement kernel of an action with this phase exponent around a pivot.
+    /// The measurement kernel of an action with this phase exponent around a pivot.
     pub fn with_pivot(
         action: ActivePauliAction,
         phase: u64,

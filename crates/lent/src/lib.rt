@@ -1,5 +1,5 @@
-// What the entry asks before the walk and does after it: the head's dense peak or refusal 24 or 1, whether the lent buffers
-// are long enough, refusals 2 to 4, zeros behind the used words or everywhere, and the choice.
+//! What the entry asks before the walk and does after it: the head's dense peak or refusal 24 or 1, whether the lent buffers
+//! are long enough, refusals 2 to 4, zeros behind the used words or everywhere, and the choice.
 #![tactic(auto)]
 
 ghost use Rattle.std.specs.Prelude.{◌≡◌, ◌^◌, ◌<◌};
@@ -19,7 +19,7 @@ use walk::Summary;
 // The largest ceiling that a head may have.
 const LARGEST_CEILING: u64 = 62;
 
-// The dense peak of a head, or refusal 24 or 1.
+/// The dense peak of a head, or refusal 24 or 1.
 pub fn dense_peak(head: Head) -> Result<u64, Reason>
     ensures { answer_of result ≡ head_answer head }
 {
@@ -29,7 +29,7 @@ pub fn dense_peak(head: Head) -> Result<u64, Reason>
     active_length(head.max_k, head.ceiling).ok_or(Reason::MaxK)
 }
 
-// Whether one of the buffers is too short for n records.
+/// Whether one of the buffers is too short for n records.
 pub fn buffers_short(n: usize, out: &StoredOutputs, groups: &[u64]) -> bool
     requires { n < 2 ^ 58 }
     ensures { result ≡ buffers_refused n (lengths_of (buffers_of out.now groups.now)) }
@@ -45,7 +45,7 @@ pub fn buffers_short(n: usize, out: &StoredOutputs, groups: &[u64]) -> bool
     out.lengths().short_of(needed) || groups.len() < 1024
 }
 
-// Refusals 2 to 4.
+/// Refusals 2 to 4.
 pub fn check_lent(initial_k: u64, words: usize, short: bool) -> Result<(), Reason>
     ensures { number_or_0 result ≡ lent_number initial_k words short }
 {
@@ -61,7 +61,7 @@ pub fn check_lent(initial_k: u64, words: usize, short: bool) -> Result<(), Reaso
     Ok(())
 }
 
-// Zeroes what the used words leave of each buffer.
+/// Zeroes what the used words leave of each buffer.
 pub fn clear_rest(done: Summary, n: usize, out: &mut StoredOutputs, groups: &mut [u64])
     requires { UsedFit done n }
     ensures same { SameOutputs out.old out.new }
@@ -77,7 +77,7 @@ pub fn clear_rest(done: Summary, n: usize, out: &mut StoredOutputs, groups: &mut
     fill_from(groups, done.groups, 0);
 }
 
-// Zeroes the seven buffers.
+/// Zeroes the seven buffers.
 pub fn clear_all(out: &mut StoredOutputs, groups: &mut [u64])
     ensures same { SameOutputs out.old out.new }
     ensures cleared { Held (refused_at 0 0) (buffers_of out.old groups.old) (buffers_of out.new groups.new) }
@@ -86,7 +86,7 @@ pub fn clear_all(out: &mut StoredOutputs, groups: &mut [u64])
     fill_from(groups, 0, 0);
 }
 
-// Whether the component path is worth its cost.
+/// Whether the component path is worth its cost.
 pub fn choose(quantum: u64, dense: f64, component: f64, allocated: u64, dense_peak: u64) -> bool
     ensures { result ≡ chosen quantum dense component allocated dense_peak }
 {

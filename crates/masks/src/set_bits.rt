@@ -1,8 +1,8 @@
-// The places of a mask's set bits, one after the other from the lowest up.
+//! The places of a mask's set bits, one after the other from the lowest up.
 ghost use Rattle.std.specs.Iterator.{YieldsFirst, item_count};
 ghost use Rattle.masks.specs.Positions.{places};
 
-// A mask that gives the places of its set bits, each of which is taken off as it is given.
+/// A mask that gives the places of its set bits, each of which is taken off as it is given.
 #[derive(Clone, Copy, Debug, PartialEq, Eq, Drop)]
 pub struct SetBits(pub u64);
 

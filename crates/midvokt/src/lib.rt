@@ -1,5 +1,5 @@
-// The library's calls: plain words in and out. Planning stands here, storing and reading plans in `stored`, optimizing pending
-// operations in `optimizing`. The crate `midvokt_c` exports them, as C and Rust link them; include/midvokt.h has the declarations.
+//! The library's calls: plain words in and out. Planning stands here, storing and reading plans in `stored`, optimizing pending
+//! operations in `optimizing`. The crate `midvokt_c` exports them, as C and Rust link them; include/midvokt.h has the declarations.
 #![tactic(auto)]
 
 pub mod optimizing;
@@ -78,7 +78,7 @@ fn write_result(planned: Result<ActiveComponentPlan, Refusal>, res: &mut [u64])
     }
 }
 
-// Plans a program into the seven buffers and the result; 0, or the refusal's number.
+/// Plans a program into the seven buffers and the result; 0, or the refusal's number.
 // Kept: C's words and slices, one by one, so that `midvokt_c` only hands them on and `replay` tries what C calls.
 #[tactic(auto, using(crate::proofs::Laid::plan_told))]
 pub fn midvokt_plan(

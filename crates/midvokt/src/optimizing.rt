@@ -1,4 +1,4 @@
-// Pending operations: a list optimized into a lent list, with a lent map of its boundaries.
+//! Pending operations: a list optimized into a lent list, with a lent map of its boundaries.
 ghost use Rattle.std.specs.Prelude.{◌≡◌};
 ghost use Rattle.optimizer.specs.Answer.{told_of};
 ghost use Rattle.midvokt.specs.Optimized.{optimize_words, OptimizeReplies};
@@ -24,7 +24,7 @@ fn optimize_words(optimized: Result<Counts, Refusal>) -> [u64; 6]
     }
 }
 
-// Optimizes a list of pending operations into the lent list, map and result; 0, or the refusal's number.
+/// Optimizes a list of pending operations into the lent list, map and result; 0, or the refusal's number.
 // Kept: C's words and slices, one by one, so that `midvokt_c` only hands them on.
 pub fn midvokt_optimize(
     width: u64,

@@ -1,4 +1,4 @@
-// Stored plans: a plan written into a file's bytes, and read back from them.
+//! Stored plans: a plan written into a file's bytes, and read back from them.
 ghost use Rattle.std.specs.Prelude.{◌≡◌};
 ghost use Rattle.stored_plan.specs.Loading as Loading;
 ghost use Rattle.store.specs.Storing as Storing;
@@ -49,7 +49,7 @@ fn load_words(loaded: Result<StoredPlan, Reason>) -> [u64; 15]
     ]
 }
 
-// Plans a program into the seven buffers and stores the plan in the file; 0, or the refusal's number.
+/// Plans a program into the seven buffers and stores the plan in the file; 0, or the refusal's number.
 // Kept: C's words and slices, one by one, so that `midvokt_c` only hands them on.
 #[tactic(auto, using(crate::proofs::Laid::store_told))]
 pub fn midvokt_store(
@@ -89,7 +89,7 @@ pub fn midvokt_store(
     reply_number(stored)
 }
 
-// Reads a stored plan into the six buffers and the result; 0, or the refusal's number.
+/// Reads a stored plan into the six buffers and the result; 0, or the refusal's number.
 // Kept: C's words and slices, one by one, so that `midvokt_c` only hands them on.
 pub fn midvokt_load(
     file: &[u8],

@@ -1,5 +1,5 @@
-// The library as C and Rust link it: each export makes the call of its name, in the crate `midvokt`, and states its clause
-// again. include/midvokt.h has the declarations.
+//! The library as C and Rust link it: each export makes the call of its name, in the crate `midvokt`, and states its clause
+//! again. include/midvokt.h has the declarations.
 #![tactic(auto)]
 
 ghost use Rattle.midvokt.specs.Reply.{Replies};
@@ -10,7 +10,7 @@ use midvokt::midvokt_plan as plan_call;
 use midvokt::optimizing::midvokt_optimize as optimize_call;
 use midvokt::stored::{midvokt_load as load_call, midvokt_store as store_call};
 
-// Plans a program into the seven buffers and the result; 0, or the refusal's number.
+/// Plans a program into the seven buffers and the result; 0, or the refusal's number.
 // Kept: C's words and slices, one by one.
 #[unsafe(no_mangle)]
 pub extern "C" fn midvokt_plan(
@@ -47,7 +47,7 @@ pub extern "C" fn midvokt_plan(
     )
 }
 
-// Plans a program into the seven buffers and stores the plan in the file; 0, or the refusal's number.
+/// Plans a program into the seven buffers and stores the plan in the file; 0, or the refusal's number.
 // Kept: C's words and slices, one by one.
 #[unsafe(no_mangle)]
 pub extern "C" fn midvokt_store(
@@ -86,7 +86,7 @@ pub extern "C" fn midvokt_store(
     )
 }
 
-// Reads a stored plan into the six buffers and the result; 0, or the refusal's number.
+/// Reads a stored plan into the six buffers and the result; 0, or the refusal's number.
 // Kept: C's words and slices, one by one.
 #[unsafe(no_mangle)]
 pub extern "C" fn midvokt_load(
@@ -113,7 +113,7 @@ pub extern "C" fn midvokt_load(
     )
 }
 
-// Optimizes a list of pending operations into the lent list, map and result; 0, or the refusal's number.
+/// Optimizes a list of pending operations into the lent list, map and result; 0, or the refusal's number.
 // Kept: C's words and slices, one by one.
 #[unsafe(no_mangle)]
 pub extern "C" fn midvokt_optimize(

@@ -1,4 +1,4 @@
-// What is judged before a list is optimized: refusal 26, the shortcut for expectation values, refusals 27 and 28.
+//! What is judged before a list is optimized: refusal 26, the shortcut for expectation values, refusals 27 and 28.
 ghost use Rattle.std.specs.Prelude.{◌≡◌, ◌/◌, false, true, ltb, length, Ok, IfOk};
 ghost use Rattle.std.specs.List.{list_any, position_from};
 ghost use Rattle.pending.specs.Operation.{operations_of, is_expectation, is_hermitian};
@@ -10,7 +10,7 @@ use pending::form::form_fits;
 use pending::operation::{is_expectation, is_hermitian, is_rotation, operation_at};
 use refusals::{Reason, Refusal};
 
-// What is to be done with a list that is not refused.
+/// What is to be done with a list that is not refused.
 #[derive(Clone, Copy, Debug, PartialEq, Eq)]
 pub enum Verdict {
     // It stays as it is: it has an expectation value.

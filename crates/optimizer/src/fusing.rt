@@ -1,4 +1,4 @@
-// Fusing rotations within a segment, in place: a rotation goes into the first one to the right that it can reach and fuse with.
+//! Fusing rotations within a segment, in place: a rotation goes into the first one to the right that it can reach and fuse with.
 ghost use Rattle.std.specs.Prelude.{◌≡◌, ◌+◌, ◌*◌, ◌<◌, ◌≤◌, ◌/◌, ◌%◌, [], suc, length, get_or, set, drop, IfSome};
 ghost use Rattle.std.specs.Float.{binary64};
 ghost use Rattle.std.specs.Float.Ieee.{to_bits};
@@ -133,7 +133,7 @@ fn copy_operation(segment: &mut [u64], from: usize, to: usize)
     }
 }
 
-// What fusing leaves: how many operations stand in front, and how many pairs were fused and cancelled.
+/// What fusing leaves: how many operations stand in front, and how many pairs were fused and cancelled.
 #[derive(Clone, Copy, Debug, PartialEq, Eq)]
 pub struct Fused {
     pub left: usize,

@@ -1,4 +1,4 @@
-// Optimizing a list of pending operations: rotations are fused and measurements moved earlier, segment by segment, in the lent list.
+//! Optimizing a list of pending operations: rotations are fused and measurements moved earlier, segment by segment, in the lent list.
 #![tactic(auto)]
 
 pub mod checks;
@@ -17,7 +17,7 @@ use crate::checks::{Verdict, check_call};
 use crate::segments::{mark_ends, optimize_segments};
 use refusals::Refusal;
 
-// How many operations came and are left, how many pairs were fused, how many of these cancelled, and how many places measurements moved in all.
+/// How many operations came and are left, how many pairs were fused, how many of these cancelled, and how many places measurements moved in all.
 #[derive(Clone, Copy, Debug, PartialEq, Eq)]
 pub struct Counts {
     pub input: usize,
@@ -104,7 +104,7 @@ fn optimize_in_segments(
     }
 }
 
-// Optimizes a list of pending operations into the lent list, with the lent map of its boundaries, or gives its first refusal, after which both are zero.
+/// Optimizes a list of pending operations into the lent list, with the lent map of its boundaries, or gives its first refusal, after which both are zero.
 pub fn optimize_pending_operations(
     width: u64,
     operations: &[u64],

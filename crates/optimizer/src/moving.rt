@@ -1,4 +1,4 @@
-// Moving measurements earlier within a segment, in place: each in front of the rotations that it passes.
+//! Moving measurements earlier within a segment, in place: each in front of the rotations that it passes.
 ghost use Rattle.std.specs.Prelude.{◌≡◌, ◌+◌, ◌*◌, ◌<◌, ◌≤◌, ◌/◌, ◌&&◌, not, cond, [], length, get_or};
 ghost use Rattle.pending.specs.Operation.{operations_of, is_rotation, strings_commute, same_string};
 ghost use Rattle.optimizer_spec.specs.Passes.{reach};

@@ -1,4 +1,4 @@
-// Segments: both passes over one, and all of them in turn, each by itself, compacted behind those in front.
+//! Segments: both passes over one, and all of them in turn, each by itself, compacted behind those in front.
 ghost use Rattle.std.specs.Prelude.{◌≡◌, ℕ, ◌+◌, ◌-◌, ◌/◌, ◌<◌, ◌≤◌, ◌++◌, false, ltb, List, length, get_or, take, drop};
 ghost use Rattle.std.specs.List.{list_any};
 ghost use Rattle.pending.specs.Operation.{Operation, operations_of};
@@ -8,7 +8,7 @@ ghost use Rattle.optimizer.specs.Working.{bare, live, Leaves, Few, Going, Come, 
 use crate::fusing::fuse_commuting_rotations;
 use crate::moving::move_measurements_earlier;
 
-// What optimizing a segment leaves: how many operations stand in front, and how many pairs, cancelled pairs and swaps there were.
+/// What optimizing a segment leaves: how many operations stand in front, and how many pairs, cancelled pairs and swaps there were.
 #[derive(Clone, Copy, Debug, PartialEq, Eq)]
 pub struct Segment {
     pub left: usize,
@@ -63,10 +63,10 @@ fn compact(list: &mut [u64], from: usize, count: usize, to: usize)
     }
 }
 
-// A map's word where there is no boundary; before that, a word that is not this one marks the end of a segment.
+/// A map's word where there is no boundary; before that, a word that is not this one marks the end of a segment.
 pub const NO_BOUNDARY: u64 = 0xffff_ffff_ffff_ffff;
 
-// How far all segments have come: where the next one begins, how many operations are left in front, and the counts so far.
+/// How far all segments have come: where the next one begins, how many operations are left in front, and the counts so far.
 #[derive(Clone, Copy, Debug, PartialEq, Eq)]
 pub struct Progress {
     pub start: usize,

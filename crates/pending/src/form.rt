@@ -1,4 +1,4 @@
-// The form of a list: refusal 26 asks that the call and each operation have it.
+//! The form of a list: refusal 26 asks that the call and each operation have it.
 ghost use Rattle.std.specs.Prelude.{◌≡◌, length};
 ghost use Rattle.std.specs.List.{list_all};
 ghost use Rattle.pending.specs.Operation.{operations_of};
@@ -161,7 +161,7 @@ fn list_fits(width: u64, words: &[u64]) -> bool
     true
 }
 
-// Whether a call has the form: the width, the list, the number of prefixes, and room for list and map.
+/// Whether a call has the form: the width, the list, the number of prefixes, and room for list and map.
 #[tactic(auto, unfolding(crate::specs::Form::form_fits))]
 pub fn form_fits(
     width: u64,

@@ -1,9 +1,9 @@
-// The lent buffers other than rows: zeros behind the used words, the longest sizes and what they allocate, and the groups.
+//! The lent buffers other than rows: zeros behind the used words, the longest sizes and what they allocate, and the groups.
 ghost use Rattle.std.specs.Prelude.{◌≡◌, ◌++◌, ◌+◌, ◌-◌, ◌^◌, ◌≤◌, ◌<◌, max, min, length, get_or, set, take, drop, replicate};
 ghost use Rattle.plan_spec.specs.Components.{allocated_for};
 ghost use Rattle.plan_buffers.specs.Buffers.{AllBelow, counts_of, CountsFit, placed_up_to, PlacesFit};
 
-// Gives every entry from a place on one value.
+/// Gives every entry from a place on one value.
 // Kept: a loop over the places and no `fill`, which asks that a clone cannot fail and is the value; of a type parameter the
 // check does not know that (tried).
 pub fn fill_from<T: Copy>(entries: &mut [T], from: usize, value: T)
@@ -14,7 +14,7 @@ pub fn fill_from<T: Copy>(entries: &mut [T], from: usize, value: T)
     }
 }
 
-// Writes n ones.
+/// Writes n ones.
 pub fn fill_ones(words: &mut [u64], n: usize)
     requires { n ≤ length words.old }
     ensures { words.new ≡ replicate n 1 ++ drop n words.old }
@@ -22,7 +22,7 @@ pub fn fill_ones(words: &mut [u64], n: usize)
     words[..n].fill(1);
 }
 
-// Raises a longest size to the size, where that is larger.
+/// Raises a longest size to the size, where that is larger.
 pub fn raise_size(sizes: &mut [u64], component: usize, size: u64)
     requires { component < length sizes.old }
     ensures { sizes.new ≡ set sizes.old component (max (get_or sizes.old component 0) size) }
@@ -30,7 +30,7 @@ pub fn raise_size(sizes: &mut [u64], component: usize, size: u64)
     sizes[component] = sizes[component].max(size);
 }
 
-// The sum of 2 to the power of each size, or the largest word where that is smaller.
+/// The sum of 2 to the power of each size, or the largest word where that is smaller.
 pub fn allocated(sizes: &[u64]) -> u64
     requires { AllBelow 64 sizes.now }
     ensures { result ≡ allocated_for sizes.now }
@@ -42,15 +42,15 @@ pub fn allocated(sizes: &[u64]) -> u64
     sum
 }
 
-// Where the members of each component go, and how many words the groups take.
+/// Where the members of each component go, and how many words the groups take.
 #[derive(Clone, Copy, Debug, PartialEq, Eq)]
 pub struct Starts {
     pub start: [u16; 512],
     pub used: usize,
 }
 
-// Writes the member count of each component that has members, in the order of their numbers, with room for the members
-// behind each.
+/// Writes the member count of each component that has members, in the order of their numbers, with room for the members
+/// behind each.
 #[tactic(auto, using(crate::proofs::Groups::counts_room))]
 pub fn write_counts(size: &[u8; 512], count: usize, groups: &mut [u64]) -> Starts
     requires fits { CountsFit (take count size.now) groups.old }
@@ -72,7 +72,7 @@ pub fn write_counts(size: &[u8; 512], count: usize, groups: &mut [u64]) -> Start
     Starts { start, used }
 }
 
-// Writes each active coordinate at its place among its component's members.
+/// Writes each active coordinate at its place among its component's members.
 pub fn write_members<'a>(
     start: [u16; 512],
     coordinate: &'a [u16; 512],

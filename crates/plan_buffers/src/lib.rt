@@ -1,4 +1,4 @@
-// What planning writes into the lent buffers beside rows and steps: longest sizes, groups, and zeros.
+//! What planning writes into the lent buffers beside rows and steps: longest sizes, groups, and zeros.
 #![tactic(auto)]
 
 pub mod buffers;
@@ -8,7 +8,7 @@ ghost use Rattle.plan_buffers.specs.Stored.{outputs_of, lengths_of, outputs_shor
 
 use crate::buffers::fill_from;
 
-// The six lent outputs that a stored plan has too. What lends by `&mut` is neither copied nor compared, so nothing more is derived.
+/// The six lent outputs that a stored plan has too. What lends by `&mut` is neither copied nor compared, so nothing more is derived.
 // Kept: planning's seventh buffer, the groups, is lent beside it. In a struct that holds this struct the six lose what their
 // owner knows of them after a call (tried), and in one struct of all seven zeroing and lengths would stand twice.
 #[derive(Drop)]
@@ -21,7 +21,7 @@ pub struct StoredOutputs<'a> {
     pub measurements: &'a mut [u64],
 }
 
-// So many words of each of the first six outputs.
+/// So many words of each of the first six outputs.
 #[derive(Clone, Copy, Debug, Default, PartialEq, Eq)]
 pub struct WordCounts {
     pub steps: usize,
@@ -33,7 +33,7 @@ pub struct WordCounts {
 }
 
 impl WordCounts {
-    // Whether one of these is less than the other's.
+    /// Whether one of these is less than the other's.
     pub fn short_of(self, needed: WordCounts) -> bool
         ensures { result ≡ outputs_short self needed }
     {
@@ -47,7 +47,7 @@ impl WordCounts {
 }
 
 impl StoredOutputs<'_> {
-    // How many words each has room for.
+    /// How many words each has room for.
     pub fn lengths(&self) -> WordCounts
         ensures { result ≡ lengths_of (outputs_of self.now) }
     {
@@ -61,7 +61,7 @@ impl StoredOutputs<'_> {
         }
     }
 
-    // Zeroes all six.
+    /// Zeroes all six.
     pub fn clear(&mut self)
         ensures same { SameOutputs self.old self.new }
         ensures cleared { Cleared (outputs_of self.old) (outputs_of self.new) }

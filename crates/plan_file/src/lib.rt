@@ -1,5 +1,5 @@
-// Writing the file of a plan into lent bytes, from the fields of its answer and the words that its outputs hold: the six
-// sections, the scalar words, the trailer, and zeros behind them.
+//! Writing the file of a plan into lent bytes, from the fields of its answer and the words that its outputs hold: the six
+//! sections, the scalar words, the trailer, and zeros behind them.
 #![tactic(auto)]
 
 ghost use Rattle.std.specs.Prelude.{◌≡◌, ◌+◌, ◌*◌, ◌≤◌, ◌<◌, ◌^◌, length};
@@ -14,7 +14,7 @@ use plan_buffers::WordCounts;
 use plan_buffers::buffers::fill_from;
 use records::float_bits;
 
-// The words that a file keeps of each of the first six outputs.
+/// The words that a file keeps of each of the first six outputs.
 // Kept: no one generic struct with `StoredOutputs` and `WordCounts`, which have the same six names: one is written through, one is
 // read and one counts, so that their derives, methods and promises differ.
 #[derive(Clone, Copy, Debug, PartialEq, Eq)]
@@ -27,7 +27,7 @@ pub struct Sections<'a> {
     pub measurements: &'a [u64],
 }
 
-// The words of the eight scalar fields.
+/// The words of the eight scalar fields.
 pub fn scalar_words(plan: ActiveComponentPlan) -> [u64; 8]
     ensures { result ≡ scalars_in plan }
 {
@@ -43,7 +43,7 @@ pub fn scalar_words(plan: ActiveComponentPlan) -> [u64; 8]
     ]
 }
 
-// How many words a file has.
+/// How many words a file has.
 pub fn word_count(used: WordCounts) -> usize
     requires { words_for used < 2 ^ 64 }
     ensures { result ≡ words_for used }
@@ -88,7 +88,7 @@ fn trailer_words(used: WordCounts) -> [u64; 16]
     ]
 }
 
-// Writes the file of a plan with these words, and zeros behind it.
+/// Writes the file of a plan with these words, and zeros behind it.
 pub fn write_file(plan: ActiveComponentPlan, sections: &Sections, file: &mut [u8])
     requires { 8 * words_for (lengths_of (words_in sections.now)) ≤ length file.old }
     ensures { file.new ≡ padded (length file.old) (bytes_of (kept_in plan (words_in sections.now))) }

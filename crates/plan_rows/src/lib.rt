@@ -1,5 +1,5 @@
-// Rows as words. A row is written into the part of its buffer that begins at its number times its size: `put` lends that
-// part, and each kind of row writes its words into the front of it.
+//! Rows as words. A row is written into the part of its buffer that begins at its number times its size: `put` lends that
+//! part, and each kind of row writes its words into the front of it.
 #![tactic(auto)]
 
 ghost use Rattle.std.specs.Prelude.{◌≡◌, ℕ, List, [], ◌∷◌, ◌++◌, ◌+◌, ◌*◌, ◌≤◌, length, drop, refl};
@@ -14,9 +14,9 @@ use kernels::active::{
 };
 use records::float_bits;
 
-// A row: how many words it has, which words they are, and how they are written.
+/// A row: how many words it has, which words they are, and how they are written.
 pub trait Row: Copy {
-    // How many words each row of the type has.
+    /// How many words each row of the type has.
     const WORDS: usize;
 
     ghost WORDS: { ℕ };
@@ -24,7 +24,7 @@ pub trait Row: Copy {
     // The words that a row stands for.
     ghost words: { Self → List ℕ };
 
-    // Writes the row's words into the front of a part.
+    /// Writes the row's words into the front of a part.
     fn write(self, part: &mut [u64])
         requires { WORDS ≤ length part.old }
         ensures { part.new ≡ words self ++ drop WORDS part.old };
@@ -33,7 +33,7 @@ pub trait Row: Copy {
     ghost counted: { (row : Self) → length (words row) ≡ WORDS };
 }
 
-// What a row says of its join: the component, and which part of the merge list has the sources.
+/// What a row says of its join: the component, and which part of the merge list has the sources.
 #[derive(Clone, Copy, Debug, PartialEq, Eq)]
 pub struct RowHead {
     pub component: u64,
@@ -41,14 +41,14 @@ pub struct RowHead {
     pub merge_count: u64,
 }
 
-// A rotation's row.
+/// A rotation's row.
 #[derive(Clone, Copy, Debug, PartialEq)]
 pub struct RotationRow {
     pub head: RowHead,
     pub kernel: PrecomputedActivePauliRotationKernel,
 }
 
-// A measurement's row, and whether the component has no coordinate left after it.
+/// A measurement's row, and whether the component has no coordinate left after it.
 #[derive(Clone, Copy, Debug, PartialEq)]
 pub struct MeasurementRow {
     pub head: RowHead,
@@ -56,7 +56,7 @@ pub struct MeasurementRow {
     pub deactivated: bool,
 }
 
-// What is done for a record.
+/// What is done for a record.
 #[derive(Clone, Copy, Debug, PartialEq, Eq)]
 pub enum StepKind {
     None,
@@ -66,7 +66,7 @@ pub enum StepKind {
     Measurement,
 }
 
-// The step of a record: its kind, and the number of its row among the rows of that kind, or 0.
+/// The step of a record: its kind, and the number of its row among the rows of that kind, or 0.
 #[derive(Clone, Copy, Debug, PartialEq, Eq)]
 pub struct Step {
     pub kind: StepKind,
@@ -174,7 +174,7 @@ impl Row for Step {
     }
 }
 
-// Writes a row into the part of the rows that begins at its number times its size.
+/// Writes a row into the part of the rows that begins at its number times its size.
 pub fn put<R: Row>(rows: &mut [u64], number: usize, row: R)
     requires { R.WORDS * number + R.WORDS ≤ length rows.old }
     ensures { rows.new ≡ patch (R.WORDS * number) (R.words row) rows.old }

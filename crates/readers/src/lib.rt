@@ -1,4 +1,4 @@
-// Readers of a plan: a row's sources as a part of the merge list, and steps and rows by their number, as structs.
+//! Readers of a plan: a row's sources as a part of the merge list, and steps and rows by their number, as structs.
 #![tactic(auto)]
 
 ghost use Rattle.std.specs.Prelude.{◌≡◌, ℕ, ◌<◌, ◌≤◌, List, length};
@@ -11,9 +11,9 @@ use kernels::active::{
 use records::float_of;
 use plan_rows::{MeasurementRow, RotationRow, RowHead};
 
-// What a row's words are read as. It is no part of `Row`: a step is read whatever number stands for its kind, so what is read is no `Step`.
+/// What a row's words are read as. It is no part of `Row`: a step is read whatever number stands for its kind, so what is read is no `Step`.
 pub trait FromWords: Copy {
-    // How many words each row of the type has.
+    /// How many words each row of the type has.
     const WORDS: usize;
 
     ghost WORDS: { ℕ };
@@ -21,20 +21,20 @@ pub trait FromWords: Copy {
     // The value that a row's words say.
     ghost value: { List ℕ → Self };
 
-    // The value of a row.
+    /// The value of a row.
     fn from_words(row: &[u64]) -> Self
         requires { WORDS ≤ length row.now }
         ensures { result ≡ value row.now };
 }
 
-// A step as it stands in the words: any number can stand for its kind.
+/// A step as it stands in the words: any number can stand for its kind.
 #[derive(Clone, Copy, Debug, PartialEq, Eq)]
 pub struct StepWords {
     pub kind: u64,
     pub payload: u64,
 }
 
-// The part of the merge list from offset on, of count words; where it runs past the end, an empty part.
+/// The part of the merge list from offset on, of count words; where it runs past the end, an empty part.
 pub fn merge_sources(merges: &[u64], offset: u64, count: u64) -> &[u64]
     ensures { result.now ≡ part_of merges.now offset count }
 {
@@ -150,7 +150,7 @@ impl FromWords for StepWords {
     }
 }
 
-// The row of a number, or none past the last whole row.
+/// The row of a number, or none past the last whole row.
 pub fn read<R: FromWords>(rows: &[u64], number: u64) -> Option<R>
     ensures { result ≡ row_read R.WORDS R.value rows.now number }
 {
@@ -159,7 +159,7 @@ pub fn read<R: FromWords>(rows: &[u64], number: u64) -> Option<R>
     Some(R::from_words(row))
 }
 
-// What `read` gives at the three types: the step, rotation or measurement of the number.
+/// What `read` gives at the three types: the step, rotation or measurement of the number.
 pub fn reads()
     ensures steps { row_read ⟦<StepWords as FromWords>⟧.WORDS ⟦<StepWords as FromWords>⟧.value ≡ step_at }
     ensures rotations { row_read ⟦<RotationRow as FromWords>⟧.WORDS ⟦<RotationRow as FromWords>⟧.value ≡ rotation_at }
@@ -174,7 +174,7 @@ fn rotation_or_zero(rotations: &[u64], i: usize) -> RotationRow
     read(rotations, i as u64).unwrap_or(RotationRow::from_words(&[0; 21]))
 }
 
-// Fills a lent slice of row structs: struct i has the values of row i, and a struct past the last row is all zero.
+/// Fills a lent slice of row structs: struct i has the values of row i, and a struct past the last row is all zero.
 pub fn fill_rotation_rows(rotations: &[u64], rows: &mut [RotationRow])
     ensures { rows.new ≡ filled_rows (length rows.old) rotations.now }
 {

@@ -1,4 +1,4 @@
-// What a record does besides changing the state: the sources of its join before, its row, its step and its sums after.
+//! What a record does besides changing the state: the sources of its join before, its row, its step and its sums after.
 #![tactic(auto)]
 
 ghost use Rattle.std.specs.Prelude.{◌≡◌, ◌+◌, ◌*◌, ◌%◌, ◌^◌, ◌<◌, ◌≤◌, length};
@@ -19,7 +19,7 @@ use refusals::Reason;
 use plan_rows::{MeasurementRow, RotationRow, RowHead, Step, StepKind, put};
 use work_sums::{Joining, Tally, join_of};
 
-// A record's Pauli: its X and Z bits by active position, and its phase exponent.
+/// A record's Pauli: its X and Z bits by active position, and its phase exponent.
 #[derive(Clone, Copy, Debug, PartialEq, Eq)]
 pub struct Pauli {
     pub x: u64,
@@ -27,7 +27,7 @@ pub struct Pauli {
     pub phase: u64,
 }
 
-// A record's turn: its index, how many coordinates are active before it, and the size that a component has to be below.
+/// A record's turn: its index, how many coordinates are active before it, and the size that a component has to be below.
 #[derive(Clone, Copy, Debug, PartialEq, Eq)]
 pub struct Turn {
     pub index: usize,
@@ -57,7 +57,7 @@ fn gather<'a>(
     join_of(size, &merges[offset..end])
 }
 
-// The join that a record makes, or none where it makes none, or refusal 11, 12 or 13.
+/// The join that a record makes, or none where it makes none, or refusal 11, 12 or 13.
 #[tactic(auto, using(crate::proofs::Patches::patch_none), unfolding(crate::specs::Turns::number_before, crate::specs::Turns::sources_before, masks::specs::Positions::sources_in))]
 pub fn open<'a>(
     instruction: Instruction,
@@ -127,7 +127,7 @@ fn step_of(kind: StepKind, row: usize) -> Step
     }
 }
 
-// Writes the row, the step and the longest size of a rotation, or gives refusal 14.
+/// Writes the row, the step and the longest size of a rotation, or gives refusal 14.
 // Kept: of the lent buffers, only the three that it writes, so that its contract need not say that the others are as they were. And
 // Here, in `measure` and in the walk Pauli, join and turn are three structs, which the record, its sources and the walk give; one of
 // all three would be made for a call, and could not hold `joined_fits`, which speaks of the places, the sums and the buffers too.
@@ -176,7 +176,7 @@ fn check_pivot(component: &[u16; 512], pivot: u64, join: Joining, turn: Turn) ->
     }
 }
 
-// Writes the row, the step and the longest size of a measurement, or gives refusal 14 to 20.
+/// Writes the row, the step and the longest size of a measurement, or gives refusal 14 to 20.
 // Kept: of the lent buffers, only the three that it writes, so that its contract need not say that the others are as they were.
 pub fn measure<'a>(
     pauli: Pauli,
@@ -216,7 +216,7 @@ pub fn measure<'a>(
     Ok(tally.measured(join, turn.width))
 }
 
-// Writes the row, the step and the longest size of a promotion, whose component has the next number.
+/// Writes the row, the step and the longest size of a promotion, whose component has the next number.
 // Kept: of the lent buffers, only the three that it writes, so that its contract need not say that the others are as they were.
 pub fn promote(
     next: usize,

@@ -1,5 +1,5 @@
-// Instruction records: the head, the decoded instruction, reading a record and the record pass (01, section 2 and
-// "Where planning stops", refusals 5 to 10; 02, CR 5, refusal 25).
+//! Instruction records: the head, the decoded instruction, reading a record and the record pass (01, section 2 and
+//! "Where planning stops", refusals 5 to 10; 02, CR 5, refusal 25).
 #![tactic(auto)]
 
 ghost use Rattle.std.specs.Prelude.{◌≡◌, ◌&&◌};
@@ -18,7 +18,7 @@ const LEAST_SUM: f64 = f64::from_bits(0x3fef_ffff_ffff_fff8);
 // 1 + 2^-50 by its bits, the fourth float above 1.
 const MOST_SUM: f64 = f64::from_bits(0x3ff0_0000_0000_0004);
 
-// The head of a program (01, section 2; the ceiling: 02, CR 4).
+/// The head of a program (01, section 2; the ceiling: 02, CR 4).
 #[derive(Clone, Copy, Debug, PartialEq, Eq)]
 pub struct Head {
     pub initial_k: u64,
@@ -27,7 +27,7 @@ pub struct Head {
     pub ceiling: u64,
 }
 
-// A decoded record (01, section 2). An expectation is a measurement with flag 1.
+/// A decoded record (01, section 2). An expectation is a measurement with flag 1.
 // Kept: a Pauli's parts and an angle's are fields of their own, as 01 lists them and the definition matches on them.
 #[derive(Clone, Copy, Debug, PartialEq)]
 pub enum Instruction {
@@ -54,7 +54,7 @@ pub enum Instruction {
     DormantBranch,
 }
 
-// The kinds of records by their numbers, from 0 on (01, section 2).
+/// The kinds of records by their numbers, from 0 on (01, section 2).
 #[derive(Clone, Copy, Debug, PartialEq, Eq)]
 pub enum Kind {
     Rotation,
@@ -105,7 +105,7 @@ fn word(fields: &[u64], j: usize) -> u64
     fields.get(j).copied().unwrap_or(0)
 }
 
-// The binary64 value that the bits stand for; each NaN pattern is the one NaN.
+/// The binary64 value that the bits stand for; each NaN pattern is the one NaN.
 pub fn float_of(bits: u64) -> f64
     ensures { result ≡ of_bits binary64 bits }
 {
@@ -116,7 +116,7 @@ pub fn float_of(bits: u64) -> f64
     }
 }
 
-// The bits of a float. A NaN has one pattern.
+/// The bits of a float. A NaN has one pattern.
 pub fn float_bits(x: f64) -> u64
     ensures { result ≡ to_bits binary64 x }
 {
@@ -174,14 +174,14 @@ fn read_record(fields: &[u64]) -> Instruction
     }
 }
 
-// Record i, decoded. A word past the end counts as 0.
+/// Record i, decoded. A word past the end counts as 0.
 pub fn read(words: &[u64], i: usize) -> Instruction
     ensures { result ≡ instruction_of (record_at words.now i) }
 {
     read_record(record_at(words, i))
 }
 
-// Whether x is from low to high, both included.
+/// Whether x is from low to high, both included.
 pub fn within(low: f64, high: f64, x: f64) -> bool
     ensures { result ≡ within low high x }
 {
@@ -303,7 +303,7 @@ fn check_record(fields: &[u64], coordinates: u64) -> Result<(), Reason>
     }
 }
 
-// The first refusal 5 to 10 or 25 with its record's index, over the whole records.
+/// The first refusal 5 to 10 or 25 with its record's index, over the whole records.
 pub fn check_records(words: &[u64], initial_k: u64) -> Result<(), Refusal>
     ensures { checked_of result ≡ record_pass initial_k words.now }
 {

@@ -1,4 +1,4 @@
-// Plans the reference circuits of document 01, whose ceiling is 62, and prints the scalar fields of each plan, or its refusal.
+//! Plans the reference circuits of document 01, whose ceiling is 62, and prints the scalar fields of each plan, or its refusal.
 #![tactic(auto)]
 
 use answer::ActiveComponentPlan;

@@ -1,4 +1,4 @@
-// Why a program or a stored plan is refused: the numbers of document 01 and 02 by name, and the record that a refusal is of.
+//! Why a program or a stored plan is refused: the numbers of document 01 and 02 by name, and the record that a refusal is of.
 #![tactic(auto)]
 
 ghost use Rattle.std.specs.Prelude.{◌≡◌};
@@ -7,7 +7,7 @@ ghost use Rattle.refusals.specs.Numbers.{number_of};
 use std::error::Error;
 use std::fmt;
 
-// The reasons for a refusal, by ascending number.
+/// The reasons for a refusal, by ascending number.
 #[derive(Clone, Copy, Debug, PartialEq, Eq)]
 pub enum Reason {
     // max_k is the ceiling or more.
@@ -68,7 +68,7 @@ pub enum Reason {
     Generator,
 }
 
-// A refusal's reason and its record's index, 0 for one of the head, the buffers or a file.
+/// A refusal's reason and its record's index, 0 for one of the head, the buffers or a file.
 #[derive(Clone, Copy, Debug, PartialEq, Eq)]
 pub struct Refusal {
     pub reason: Reason,
@@ -76,7 +76,7 @@ pub struct Refusal {
 }
 
 impl Reason {
-    // The number of the reason.
+    /// The number of the reason.
     pub fn number(self) -> u64
         ensures { result ≡ number_of self }
     {
@@ -112,7 +112,7 @@ impl Reason {
         }
     }
 
-    // The refusal of a record for this reason.
+    /// The refusal of a record for this reason.
     pub fn at(self, index: usize) -> Refusal
         ensures { result ≡ record { reason = self; index = index } }
     {

@@ -1,6 +1,6 @@
-// Replays fixed vectors against the proved planner and prints how many agree. Standard input holds them: programs with the
-// answers of the published Rust, and under ceilings below 62 with those made of its answers, as tests/vectors/make writes
-// and describes them.
+//! Replays fixed vectors against the proved planner and prints how many agree. Standard input holds them: programs with the
+//! answers of the published Rust, and under ceilings below 62 with those made of its answers, as tests/vectors/make writes
+//! and describes them.
 #![tactic(auto)]
 
 ghost use Rattle.std.specs.Prelude.{OnOk};

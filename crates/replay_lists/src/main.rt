@@ -1,5 +1,5 @@
-// Replays fixed lists of pending operations against the proved optimizer and prints how many agree. Standard input holds them with
-// the answers of the published Rust, as tests/vectors/make writes and describes them.
+//! Replays fixed lists of pending operations against the proved optimizer and prints how many agree. Standard input holds them with
+//! the answers of the published Rust, as tests/vectors/make writes and describes them.
 #![tactic(auto)]
 
 ghost use Rattle.std.specs.Prelude.{OnOk};

@@ -1,6 +1,6 @@
-// The state of planning, by active position. No member lists are kept: member j of a component is the coordinate at the
-// position that has that component and that place. Which coordinate that is stands beside the state, in the active order:
-// only the groups ask for it, and what the steps take and return by value is smaller without it.
+//! The state of planning, by active position. No member lists are kept: member j of a component is the coordinate at the
+//! position that has that component and that place. Which coordinate that is stands beside the state, in the active order:
+//! only the groups ask for it, and what the steps take and return by value is smaller without it.
 #![tactic(auto)]
 
 ghost use Rattle.std.specs.Prelude.{◌≡◌, ◌≤◌, ◌<◌, length, set};
@@ -8,22 +8,24 @@ ghost use Rattle.masks.specs.Positions.{Below512};
 ghost use Rattle.state.specs.Steps.{InOrder, Closed, Started, Joinable, gathering, sizes_after, BeforeJoin, Joined, BeforePromotion, promoted, BeforeRemoval, Removed};
 ghost use Rattle.state.specs.Steps as Steps;
 
+/// The active positions of a walk, each with its component and its place among that component's
+/// members; sizes by component.
 #[derive(Clone, Copy, Debug, PartialEq, Eq)]
 pub struct State {
-    // by active position: the component of the coordinate there, and its index among that component's members
+    /// by active position: the component of the coordinate there, and its index among that component's members
     // Kept: two arrays, since most of what reads the state reads one of them alone, and a struct of both at each position takes
     // 512 bytes more in each of the three states that the walk's stack has
     pub component: [u16; 512],
     pub place: [u8; 512],
-    // by component number: how many members it has, 0 once joined away or emptied
+    /// by component number: how many members it has, 0 once joined away or emptied
     pub size: [u8; 512],
-    // how many coordinates are active, and how many components were ever made
+    /// how many coordinates are active, and how many components were ever made
     pub width: usize,
     pub count: usize,
 }
 
-// The active order at the start: coordinates 0 to k - 1, and zeros behind them. The component that a coordinate begins in has
-// the same number.
+/// The active order at the start: coordinates 0 to k - 1, and zeros behind them. The component that a coordinate begins in has
+/// the same number.
 // Kept: an array and no vector, since the library has no heap. How much of it counts is the state's width, as for components and
 // places, and a length of its own would say that again.
 pub fn first_order(k: usize) -> [u16; 512]
@@ -38,7 +40,7 @@ pub fn first_order(k: usize) -> [u16; 512]
     numbers
 }
 
-// A coordinate behind the last of the active order.
+/// A coordinate behind the last of the active order.
 pub fn append(order: &mut [u16; 512], width: usize, coordinate: usize)
     requires { (width < 512) × (coordinate < 512) }
     ensures { order.new ≡ set order.old width coordinate }
@@ -46,7 +48,7 @@ pub fn append(order: &mut [u16; 512], width: usize, coordinate: usize)
     order[width] = coordinate as u16;
 }
 
-// The coordinate at a position leaves the active order, and those behind it, up to the last, move down.
+/// The coordinate at a position leaves the active order, and those behind it, up to the last, move down.
 pub fn close_gap(order: &mut [u16; 512], pivot: usize, last: usize)
     requires { (pivot ≤ last) × (last < 512) × (length order.old ≡ 512) }
     ensures { Closed pivot last order.old order.new }
@@ -54,8 +56,8 @@ pub fn close_gap(order: &mut [u16; 512], pivot: usize, last: usize)
     order[..].copy_within(pivot + 1..last + 1, pivot);
 }
 
-// Gives the first of the sources the sizes of all, and the others none. Returns by how much a join raises the places of each
-// component's members: 0 for the first source's, and for those of a component that is no source.
+/// Gives the first of the sources the sizes of all, and the others none. Returns by how much a join raises the places of each
+/// component's members: 0 for the first source's, and for those of a component that is no source.
 pub fn gather_sizes(size: &mut [u8; 512], sources: &[u64]) -> [u8; 512]
     requires { Joinable size.old sources.now }
     ensures { (result ≡ (gathering size.old sources.now).rise)
@@ -94,7 +96,7 @@ fn lower(target: u16, local: u8, component: u16, place: u8) -> u8
 }
 
 impl State {
-    // Coordinates 0 to k - 1 in order, each alone in the component of its number.
+    /// Coordinates 0 to k - 1 in order, each alone in the component of its number.
     pub fn start(k: usize) -> Self
         requires { k ≤ 512 }
         ensures { Started k result }
@@ -111,7 +113,7 @@ impl State {
         }
     }
 
-    // The members of the other sources go behind those of the first, in order.
+    /// The members of the other sources go behind those of the first, in order.
     #[tactic(auto, using(crate::proofs::Gathers::length_after))]
     pub fn join(mut self, sources: &[u64]) -> Self
         requires { BeforeJoin self sources.now }
@@ -129,7 +131,7 @@ impl State {
         self
     }
 
-    // A new coordinate, alone in a new component, both with the next number.
+    /// A new coordinate, alone in a new component, both with the next number.
     #[tactic(auto, unfolding(crate::specs::Steps::promoted))]
     pub fn promote(mut self) -> Self
         requires { BeforePromotion self }
@@ -143,7 +145,7 @@ impl State {
         self
     }
 
-    // The coordinate at an active position leaves, the order otherwise kept.
+    /// The coordinate at an active position leaves, the order otherwise kept.
     pub fn remove(mut self, pivot: usize) -> Self
         requires { BeforeRemoval self pivot }
         ensures { Removed self pivot result }

@@ -1,5 +1,5 @@
-// Storing a plan: head and records are planned into the seven outputs, and the plan's file is then written from them into lent
-// bytes. Nothing is allocated, and no copy of the file is made.
+//! Storing a plan: head and records are planned into the seven outputs, and the plan's file is then written from them into lent
+//! bytes. Nothing is allocated, and no copy of the file is made.
 #![tactic(auto)]
 
 ghost use Rattle.std.specs.Prelude.{◌≡◌, ◌*◌, ◌≤◌, length};
@@ -37,8 +37,8 @@ fn write_used(plan: ActiveComponentPlan, out: &StoredOutputs, file: &mut [u8])
     write_file(plan, &sections, file);
 }
 
-// Plans head and records into the seven outputs and stores the plan in the file, whose length in bytes is given; or gives the
-// first refusal, after which outputs and file are zero.
+/// Plans head and records into the seven outputs and stores the plan in the file, whose length in bytes is given; or gives the
+/// first refusal, after which outputs and file are zero.
 pub fn store(
     head: Head,
     records: &[u64],

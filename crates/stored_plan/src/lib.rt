@@ -1,5 +1,5 @@
-// Reading a stored plan: refusals 21 to 23, and else its sections into six lent outputs. The words come back as they stand:
-// only the trailer and component_count are looked at.
+//! Reading a stored plan: refusals 21 to 23, and else its sections into six lent outputs. The words come back as they stand:
+//! only the trailer and component_count are looked at.
 #![tactic(auto)]
 
 ghost use Rattle.std.specs.Prelude.{◌≡◌, cond, map, ◌+◌, ◌*◌, ◌≤◌, length, get_or, IfOk};
@@ -16,7 +16,7 @@ use plan_buffers::buffers::fill_from;
 use plan_buffers::{StoredOutputs, WordCounts};
 use refusals::Reason;
 
-// The words of the eight scalar fields, as a file has them.
+/// The words of the eight scalar fields, as a file has them.
 #[derive(Clone, Copy, Debug, PartialEq, Eq)]
 pub struct ScalarWords {
     pub selected: u64,
@@ -29,7 +29,7 @@ pub struct ScalarWords {
     pub component_allocated_dimension: u64,
 }
 
-// What reading gives beside the outputs: the eight scalar words, and how many words each output has.
+/// What reading gives beside the outputs: the eight scalar words, and how many words each output has.
 #[derive(Clone, Copy, Debug, PartialEq, Eq)]
 pub struct StoredPlan {
     pub scalars: ScalarWords,
@@ -142,7 +142,7 @@ fn scalars_at(file: &[u8], at: usize) -> ScalarWords
     }
 }
 
-// Reads a stored plan into the six outputs, or gives its first refusal, after which they are zero.
+/// Reads a stored plan into the six outputs, or gives its first refusal, after which they are zero.
 pub fn load(file: &[u8], out: &mut StoredOutputs) -> Result<StoredPlan, Reason>
     ensures same { SameOutputs out.old out.new }
     ensures loads { Loads file.now (outputs_of out.old) (outputs_of out.new) result }

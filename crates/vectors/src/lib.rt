@@ -1,4 +1,4 @@
-// Fixed vectors, read from words of eight bytes, and how many of them agree: what the programs that replay them share.
+//! Fixed vectors, read from words of eight bytes, and how many of them agree: what the programs that replay them share.
 #![tactic(auto)]
 
 ghost use Rattle.std.specs.Prelude.{◌≡◌, ◌≤◌, true, length, IfOk};
@@ -11,7 +11,7 @@ use std::{fmt, io};
 // The most words of a list in a vector.
 const LONGEST: u64 = 65536;
 
-// Why a vector is not read.
+/// Why a vector is not read.
 #[derive(Debug, Drop)]
 pub enum ReplayError {
     TooLong,
@@ -45,14 +45,14 @@ impl From<AllocError> for ReplayError {
     }
 }
 
-// Reads a word of eight bytes, the lowest first.
+/// Reads a word of eight bytes, the lowest first.
 pub fn read_word(input: &mut impl Read) -> Result<u64, ReplayError> {
     let mut bytes = [0u8; 8];
     input.read_exact(&mut bytes)?;
     Ok(u64::from_le_bytes(bytes))
 }
 
-// Reads so many words.
+/// Reads so many words.
 pub fn read_words(alloc: Global, input: &mut impl Read, count: u64) -> Result<Vec<u64>, ReplayError>
     ensures { IfOk result (λ words. length words.items ≡ count) }
 {
@@ -63,7 +63,7 @@ pub fn read_words(alloc: Global, input: &mut impl Read, count: u64) -> Result<Ve
     Ok(words)
 }
 
-// Whether a buffer holds the used words and zeros behind them, and nothing else.
+/// Whether a buffer holds the used words and zeros behind them, and nothing else.
 pub fn holds(buffer: &[u64], used: &[u64]) -> bool
     ensures { (result ≡ true → buffer.now ≡ padded (length buffer.now) used.now)
         × (buffer.now ≡ padded (length buffer.now) used.now → result ≡ true) }
@@ -79,13 +79,13 @@ pub fn holds(buffer: &[u64], used: &[u64]) -> bool
     true
 }
 
-// A kind of vectors.
+/// A kind of vectors.
 pub trait Vector {
-    // Reads the next vector and replays it; whether it agrees.
+    /// Reads the next vector and replays it; whether it agrees.
     fn replay<I: Read>(alloc: Global, input: &mut I) -> Result<bool, ReplayError>;
 }
 
-// Reads what a buffer should hold, and compares.
+/// Reads what a buffer should hold, and compares.
 pub fn buffer_agrees(
     alloc: Global,
     input: &mut impl Read,
@@ -129,7 +129,7 @@ fn replay_all<V: Vector>(
     println!(rt; "{count} vectors: {agree} agree, {differ} differ")
 }
 
-// Reads the number of vectors and replays them.
+/// Reads the number of vectors and replays them.
 pub fn replay_vectors<V: Vector>(
     rt: &impl Print,
     alloc: Global,

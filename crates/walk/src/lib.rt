@@ -1,5 +1,5 @@
-// The walk over the records. The state is a local of the walk's function, and is changed by nothing but its own steps; the active
-// order stands beside it and is changed in place.
+//! The walk over the records. The state is a local of the walk's function, and is changed by nothing but its own steps; the active
+//! order stands beside it and is changed in place.
 #![tactic(auto)]
 
 ghost use Rattle.std.specs.Prelude.{◌≡◌, ◌+◌, ◌*◌, ◌<◌, ◌≤◌, ℕ, List, [], ◌∷◌, length, set};
@@ -24,8 +24,8 @@ use state::{State, append, close_gap, first_order};
 use work_sums::{Joining, Tally};
 use record_steps::{Pauli, Turn, measure, open, promote, rotate};
 
-// What a finished walk leaves beside the buffers: the sums, how many components were made, and how many words the groups
-// take.
+/// What a finished walk leaves beside the buffers: the sums, how many components were made, and how many words the groups
+/// take.
 #[derive(Clone, Copy, Debug, PartialEq)]
 pub struct Summary {
     pub tally: Tally,
@@ -252,7 +252,7 @@ fn turn(
     Ok(())
 }
 
-// Walks over the records, and writes every output but the zeros behind the used words.
+/// Walks over the records, and writes every output but the zeros behind the used words.
 pub fn walk(
     limit: u64,
     initial_k: usize,

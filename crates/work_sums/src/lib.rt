@@ -1,6 +1,6 @@
-// Works, dimensions and counts, kept as the walk goes. Every sum of floats is in the order of the definition, each addition
-// rounded once. Beside them the works are kept as whole numbers modulo 2^64; they are handed out where no width passed 38,
-// and there they did not wrap.
+//! Works, dimensions and counts, kept as the walk goes. Every sum of floats is in the order of the definition, each addition
+//! rounded once. Beside them the works are kept as whole numbers modulo 2^64; they are handed out where no width passed 38,
+//! and there they did not wrap.
 #![tactic(auto)]
 
 ghost use Rattle.std.specs.Prelude.{◌≡◌, ◌+◌, ◌*◌, ◌%◌, ◌^◌, ◌<◌, ◌≤◌, max, slice_index};
@@ -12,8 +12,8 @@ use kernels::bits::exact_exp2;
 // Past this active width the works are not given as whole numbers.
 const WIDEST: u64 = 38;
 
-// A join that is to be made: how many sources it has, the first of them, how many members they have together, the joining
-// cost as a float and as a whole number, and the sources' dimensions together.
+/// A join that is to be made: how many sources it has, the first of them, how many members they have together, the joining
+/// cost as a float and as a whole number, and the sources' dimensions together.
 #[derive(Clone, Copy, Debug, PartialEq)]
 pub struct Joining {
     pub count: usize,
@@ -24,8 +24,8 @@ pub struct Joining {
     pub freed: u64,
 }
 
-// The works as floats and as whole numbers, the widest active width, the live dimension and its peak, and how many merges,
-// rows of each kind and quantum instructions there are.
+/// The works as floats and as whole numbers, the widest active width, the live dimension and its peak, and how many merges,
+/// rows of each kind and quantum instructions there are.
 #[derive(Clone, Copy, Debug, Default, PartialEq)]
 pub struct Tally {
     pub dense: f64,
@@ -42,8 +42,8 @@ pub struct Tally {
     pub quantum: u64,
 }
 
-// Both works as whole numbers, and dense divided by component: not where a width passed 38, and no quotient where the
-// component work is 0.
+/// Both works as whole numbers, and dense divided by component: not where a width passed 38, and no quotient where the
+/// component work is 0.
 // Kept: an enum of its own, since it has three cases.
 #[derive(Clone, Copy, Debug, PartialEq, Eq)]
 pub enum WholeWorks {
@@ -98,7 +98,7 @@ fn size_at(size: &[u8; 512], component: u64) -> u64
     u64::from(size[component as usize])
 }
 
-// The join of the sources.
+/// The join of the sources.
 pub fn join_of(size: &[u8; 512], sources: &[u64]) -> Joining
     requires { Countable size.now sources.now }
     ensures { result ≡ joining_of size.now sources.now }
@@ -126,7 +126,7 @@ pub fn join_of(size: &[u8; 512], sources: &[u64]) -> Joining
 }
 
 impl Tally {
-    // Before the first record, with k coordinates, each alone.
+    /// Before the first record, with k coordinates, each alone.
     #[tactic(auto, unfolding(crate::specs::Tally::start_tally))]
     pub fn start(k: u64) -> Self
         requires { 2 * k < 2 ^ 64 }
@@ -156,7 +156,7 @@ impl Tally {
         self
     }
 
-    // After a rotation of no coordinates.
+    /// After a rotation of no coordinates.
     #[tactic(auto, unfolding(crate::specs::Tally::ignored_tally))]
     pub fn ignored(mut self) -> Self
         requires { self.quantum + 1 < 2 ^ 64 }
@@ -168,7 +168,7 @@ impl Tally {
         self
     }
 
-    // After a rotation of k coordinates, and the join before it.
+    /// After a rotation of k coordinates, and the join before it.
     #[tactic(auto, unfolding(crate::specs::Tally::joined_tally))]
     pub fn rotated(self, join: Joining, k: u64) -> Self
         requires join_fits { JoinFits self join }
@@ -184,7 +184,7 @@ impl Tally {
         next
     }
 
-    // After a promotion at k coordinates.
+    /// After a promotion at k coordinates.
     pub fn promoted(mut self, k: u64) -> Self
         requires narrow { k < 512 }
         requires live_fits { self.live + 2 < 2 ^ 64 }
@@ -204,7 +204,7 @@ impl Tally {
         self
     }
 
-    // After a measurement of k coordinates, the join before it and the removal.
+    /// After a measurement of k coordinates, the join before it and the removal.
     #[tactic(auto, unfolding(crate::specs::Tally::joined_tally))]
     pub fn measured(self, join: Joining, k: u64) -> Self
         requires join_fits { JoinFits self join }
@@ -222,7 +222,7 @@ impl Tally {
         next
     }
 
-    // The works as whole numbers, and how many times the component work goes into the dense one.
+    /// The works as whole numbers, and how many times the component work goes into the dense one.
     #[tactic(auto, unfolding(plan_spec::specs::WholeWorks::whole_works_of))]
     pub fn whole_works(self) -> WholeWorks
         ensures { works_of result ≡ whole_works_of (record { dense = self.whole_dense; component = self.whole_work; widest = self.widest }) }
