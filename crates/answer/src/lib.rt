@@ -4,13 +4,14 @@
 
 ghost use Rattle.std.specs.Prelude.{◌≡◌, false, pos, ◌*◌, Ok};
 ghost use Rattle.std.specs.Float.{fin};
+ghost use Rattle.plan_spec.specs.Rows.{measurement_words, rotation_words};
 ghost use Rattle.plan_spec.specs.WholeWorks.{whole_works_of};
 ghost use Rattle.plan_spec.specs.Plan.{chosen};
 ghost use Rattle.lent.specs.Lent.{UsedFit};
 ghost use Rattle.answer.specs.Outcome.{accepted, outcome_of};
 
 use lent::choose;
-use plan_buffers::WordCounts;
+use plan_buffers::{MEASUREMENT_WORDS, ROTATION_WORDS, WordCounts};
 use work_sums::WholeWorks;
 use walk::Summary;
 
@@ -70,7 +71,7 @@ pub fn plan_of(
     ensures { outcome_of (Ok result)
         ≡ accepted (chosen done.tally.quantum done.tally.dense done.tally.work allocated dense_peak) initial_k done.count done.tally.dense done.tally.work dense_peak done.tally.peak allocated
         (whole_works_of (record { dense = done.tally.whole_dense; component = done.tally.whole_work; widest = done.tally.widest }))
-        (record { steps = 2 * n; merges = done.tally.merges; sizes = done.count; rotations = 21 * done.tally.rotations; promotions = done.tally.promotions; measurements = 19 * done.tally.measurements }) }
+        (record { steps = 2 * n; merges = done.tally.merges; sizes = done.count; rotations = rotation_words * done.tally.rotations; promotions = done.tally.promotions; measurements = measurement_words * done.tally.measurements }) }
 {
     let tally = done.tally;
     ActiveComponentPlan {
@@ -93,9 +94,9 @@ pub fn plan_of(
             steps: 2 * n,
             merges: tally.merges,
             sizes: done.count,
-            rotations: 21 * tally.rotations,
+            rotations: ROTATION_WORDS * tally.rotations,
             promotions: tally.promotions,
-            measurements: 19 * tally.measurements,
+            measurements: MEASUREMENT_WORDS * tally.measurements,
         },
     }
 }

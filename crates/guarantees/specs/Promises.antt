@@ -5,6 +5,7 @@ use Rattle.records.specs.Record.{kind, sine, cosine, record_at, instructions_of}
 use Rattle.records.specs.Sound.{UnitPair}
 use Rattle.records.specs.declared.Head.{Head}
 use Rattle.records.specs.declared.Instruction.TheVariants.{DormantBranch}
+use Rattle.plan_spec.specs.Rows.{measurement_words, rotation_words}
 use Rattle.plan_spec.specs.Walk.{Walk, start, finished, walk_from}
 use Rattle.plan_spec.specs.Plan.{Plan, planned, plan_of}
 use Rattle.plan_spec.specs.Connectivity.{Connected, replay_after}
@@ -38,7 +39,7 @@ ComponentsAreRight = OfPlans λ h ws p. (m : ℕ) → m ≤ length (instructions
 abbrev pub SourcesAreListed : Type 0
 SourcesAreListed =
     (h : Head) (ws : List ℕ) (before after : Buffers) (p q : Plan) → Leaves h ws before after (Some p) → IsRead h → plan_of h ws (lengths_of before) ≡ planned q
-    → SourcesListed h.initial_k (instructions_of ws) p (length q.rotations / 21) (length q.measurements / 19)
+    → SourcesListed h.initial_k (instructions_of ws) p (length q.rotations / rotation_words) (length q.measurements / measurement_words)
 
 -- the groups are the components that live after the last record
 abbrev pub GroupsAreListed : Type 0

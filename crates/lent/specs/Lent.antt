@@ -2,6 +2,7 @@
 use Rattle.std.specs.Prelude.{◌≡◌, ℕ, ◌-◌, ◌*◌, ◌%◌, ◌^◌, ◌<◌, Bool, not, ◌||◌, List, ◌++◌, length, take, replicate, ◌==◌, nat_lt, Option, Some, None, if◌then◌else◌}
 use Rattle.refusals.specs.Answer.{Answer, given, refused}
 use Rattle.records.specs.declared.Head.{Head}
+use Rattle.plan_spec.specs.Rows.{measurement_words, rotation_words}
 use Rattle.plan_spec.specs.Plan.{Result, held_after, max_dimension, ceiling_refused}
 use Rattle.plan_buffers.specs.Outputs.{Buffers}
 use Rattle.walk.specs.declared.Summary.{Summary}
@@ -39,13 +40,13 @@ pub record RestCleared (done : Summary) (n : ℕ) (before after : Buffers) : Typ
   pub steps : after.steps ≡ cleared_from (2 * n) before.steps
   pub merges : after.merges ≡ cleared_from done.tally.merges before.merges
   pub sizes : after.sizes ≡ cleared_from done.count before.sizes
-  pub rotations : after.rotations ≡ cleared_from (21 * done.tally.rotations) before.rotations
+  pub rotations : after.rotations ≡ cleared_from (rotation_words * done.tally.rotations) before.rotations
   pub promotions : after.promotions ≡ cleared_from done.tally.promotions before.promotions
-  pub measurements : after.measurements ≡ cleared_from (19 * done.tally.measurements) before.measurements
+  pub measurements : after.measurements ≡ cleared_from (measurement_words * done.tally.measurements) before.measurements
   pub groups : after.groups ≡ cleared_from done.groups before.groups
 
 -- the used words can be counted
 pub record UsedFit (done : Summary) (n : ℕ) : Type 0 where
   pub steps : 2 * n < 2 ^ 64
-  pub rotations : 21 * done.tally.rotations < 2 ^ 64
-  pub measurements : 19 * done.tally.measurements < 2 ^ 64
+  pub rotations : rotation_words * done.tally.rotations < 2 ^ 64
+  pub measurements : measurement_words * done.tally.measurements < 2 ^ 64

@@ -11,7 +11,7 @@ ghost use Rattle.lent.specs.Lent.{head_answer, Held, lent_number, UsedFit, RestC
 
 use kernels::bits::active_length;
 use plan_buffers::buffers::fill_from;
-use plan_buffers::{StoredOutputs, WordCounts};
+use plan_buffers::{MEASUREMENT_WORDS, ROTATION_WORDS, StoredOutputs, WordCounts};
 use records::Head;
 use refusals::Reason;
 use walk::Summary;
@@ -38,9 +38,9 @@ pub fn buffers_short(n: usize, out: &StoredOutputs, groups: &[u64]) -> bool
         steps: 2 * n,
         merges: n + 512,
         sizes: 512,
-        rotations: 21 * n,
+        rotations: ROTATION_WORDS * n,
         promotions: n,
-        measurements: 19 * n,
+        measurements: MEASUREMENT_WORDS * n,
     };
     out.lengths().short_of(needed) || groups.len() < 1024
 }
@@ -71,9 +71,9 @@ pub fn clear_rest(done: Summary, n: usize, out: &mut StoredOutputs, groups: &mut
     fill_from(out.steps, 2 * n, 0);
     fill_from(out.merges, tally.merges, 0);
     fill_from(out.sizes, done.count, 0);
-    fill_from(out.rotations, 21 * tally.rotations, 0);
+    fill_from(out.rotations, ROTATION_WORDS * tally.rotations, 0);
     fill_from(out.promotions, tally.promotions, 0);
-    fill_from(out.measurements, 19 * tally.measurements, 0);
+    fill_from(out.measurements, MEASUREMENT_WORDS * tally.measurements, 0);
     fill_from(groups, done.groups, 0);
 }
 

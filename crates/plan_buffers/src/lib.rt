@@ -21,6 +21,12 @@ pub struct StoredOutputs<'a> {
     pub measurements: &'a mut [u64],
 }
 
+/// The words of a rotation's row.
+pub const ROTATION_WORDS: usize = 21;
+
+/// The words of a measurement's row.
+pub const MEASUREMENT_WORDS: usize = 19;
+
 /// So many words of each of the first six outputs.
 #[derive(Clone, Copy, Debug, Default, PartialEq, Eq)]
 pub struct WordCounts {

@@ -3,6 +3,7 @@
 #![tactic(auto)]
 
 ghost use Rattle.std.specs.Prelude.{◌≡◌, ℕ, List, [], ◌∷◌, ◌++◌, ◌+◌, ◌*◌, ◌≤◌, length, drop, refl};
+ghost use Rattle.plan_spec.specs.Rows.{measurement_words, rotation_words};
 ghost use Rattle.plan_spec.specs.Walk.{bits_word, row_head, rotation_row, measurement_row};
 ghost use Rattle.plan_spec.proofs.Growth.{rotation_row_length, measurement_row_length};
 ghost use Rattle.plan_buffers.specs.Buffers.{patch};
@@ -12,6 +13,7 @@ use kernels::active::{
     ActivePauliAction, PrecomputedActivePauliMeasurementKernel,
     PrecomputedActivePauliRotationKernel,
 };
+use plan_buffers::{MEASUREMENT_WORDS, ROTATION_WORDS};
 use records::float_bits;
 
 /// A row: how many words it has, which words they are, and how they are written.
@@ -108,9 +110,9 @@ fn write_head(part: &mut [u64], head: RowHead, action: ActivePauliAction)
 }
 
 impl Row for RotationRow {
-    const WORDS: usize = 21;
+    const WORDS: usize = ROTATION_WORDS;
 
-    ghost WORDS = { 21 };
+    ghost WORDS = { rotation_words };
 
     ghost words = { λ row. rotation_row row.head.component row.head.merge_offset row.head.merge_count row.kernel };
 
@@ -135,9 +137,9 @@ impl Row for RotationRow {
 }
 
 impl Row for MeasurementRow {
-    const WORDS: usize = 19;
+    const WORDS: usize = MEASUREMENT_WORDS;
 
-    ghost WORDS = { 19 };
+    ghost WORDS = { measurement_words };
 
     ghost words = { λ row. measurement_row row.head.component row.head.merge_offset row.head.merge_count row.kernel row.deactivated };
 

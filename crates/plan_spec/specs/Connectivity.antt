@@ -5,6 +5,7 @@ use mathlib.Core.List.{List, [], ◌∷◌, ◌++◌, map, Memᴰ}
 use Rattle.kernels.specs.Bits.{bit_at}
 use Rattle.records.specs.declared.Instruction.{Instruction}
 use Rattle.records.specs.declared.Instruction.TheVariants.{Rotation, Promotion, RecordMeasurement, RecordDetector, Measurement, Expectation, DormantBranch}
+use Rattle.plan_spec.specs.Rows.{measurement_words, rotation_words}
 use Rattle.plan_spec.specs.Lists.{is_in, remove_at, numbers_from, total, concat}
 use Rattle.plan_spec.specs.Components.{amplitudes}
 use Rattle.plan_spec.specs.Plan.{Plan}
@@ -162,10 +163,10 @@ abbrev pub row_at : ℕ → List ℕ → ℕ → List ℕ
 row_at size rows payload = take size (drop (size * payload) rows)
 
 abbrev pub rotation_at : Plan → ℕ → List ℕ
-rotation_at p m = row_at 21 p.rotations (payload_at p m)
+rotation_at p m = row_at rotation_words p.rotations (payload_at p m)
 
 abbrev pub measurement_at : Plan → ℕ → List ℕ
-measurement_at p m = row_at 19 p.measurements (payload_at p m)
+measurement_at p m = row_at measurement_words p.measurements (payload_at p m)
 
 abbrev pub listed_by : Plan → List ℕ → List ℕ
 listed_by p row = take (get_or row 2 0) (drop (get_or row 1 0) p.merges)

@@ -8,6 +8,7 @@ use Rattle.std.specs.Float.Ieee.Exact.{HasValue}
 use Rattle.kernels.specs.Bits.{dimension}
 use Rattle.records.specs.declared.Head.{Head}
 use Rattle.records.specs.declared.Instruction.{Instruction}
+use Rattle.plan_spec.specs.Rows.{measurement_words, rotation_words}
 use Rattle.plan_spec.specs.Components.{members_of, size_of}
 use Rattle.plan_spec.specs.WholeWorks.{WholeWorks, too_wide, without_quotient, with_quotient}
 use Rattle.plan_spec.specs.Walk.{Walk, Written, bits_word, join_of}
@@ -63,9 +64,9 @@ pub record Fits (p : Plan) (n : ℕ) : Type 0 where
   pub steps : length p.steps ≤ 2 * n
   pub merges : length p.merges ≤ n + 511
   pub sizes : length p.sizes ≤ 512
-  pub rotations : length p.rotations ≤ 21 * n
+  pub rotations : length p.rotations ≤ rotation_words * n
   pub promotions : length p.promotions ≤ n
-  pub measurements : length p.measurements ≤ 19 * n
+  pub measurements : length p.measurements ≤ measurement_words * n
   pub groups : length p.groups ≤ 1024
   pub peak : p.peak < 2 ^ 63
 
@@ -104,8 +105,8 @@ pub record PlanWords (p : Plan) : Type 0 where
 pub record PlanCounts (n : ℕ) (p : Plan) : Type 0 where
   pub steps : length p.steps % 2 ≡ 0
   pub sizes : length p.sizes ≡ p.component_count
-  pub rotations : length p.rotations % 21 ≡ 0
-  pub measurements : length p.measurements % 19 ≡ 0
+  pub rotations : length p.rotations % rotation_words ≡ 0
+  pub measurements : length p.measurements % measurement_words ≡ 0
   pub most : length p.steps + length p.merges + length p.sizes + length p.rotations + length p.promotions + length p.measurements ≤ 24 * n + 1023
   pub few : length p.steps + length p.merges + length p.sizes + length p.rotations + length p.promotions + length p.measurements ≤ 24 * 1024 + 1023
 

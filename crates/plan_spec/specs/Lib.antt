@@ -1,6 +1,7 @@
 pub mod Lists
 pub mod Components
 pub mod WholeWorks
+pub mod Rows
 pub mod Walk
 pub mod Plan
 pub mod Circuits

@@ -7,6 +7,7 @@ use Rattle.kernels.specs.Bits.{dimension}
 use Rattle.records.specs.Record.{instructions_of}
 use Rattle.records.specs.Pass.{Checked, Passed, Refused, record_pass}
 use Rattle.records.specs.declared.Head.{Head}
+use Rattle.plan_spec.specs.Rows.{measurement_words, rotation_words}
 use Rattle.plan_spec.specs.Lists.{concat}
 use Rattle.plan_spec.specs.Components.{allocated_for}
 use Rattle.plan_spec.specs.WholeWorks.{WholeWorks, whole_works_of}
@@ -129,8 +130,8 @@ words_refused ws = not (length ws % 8 == 0) || nat_lt 8192 (length ws)
 -- 3: "with n records, steps < 2n, merges < n+512, sizes < 512, rotations < 21n, promotions < n, measurements < 19n or groups < 1,024 words"
 abbrev pub buffers_refused : ℕ → Lengths → Bool
 buffers_refused n l =
-    nat_lt l.steps (2 * n) || nat_lt l.merges (n + 512) || nat_lt l.sizes 512 || nat_lt l.rotations (21 * n)
-    || nat_lt l.promotions n || nat_lt l.measurements (19 * n) || nat_lt l.groups 1024
+    nat_lt l.steps (2 * n) || nat_lt l.merges (n + 512) || nat_lt l.sizes 512 || nat_lt l.rotations (rotation_words * n)
+    || nat_lt l.promotions n || nat_lt l.measurements (measurement_words * n) || nat_lt l.groups 1024
 
 abbrev pub after_walk : ℕ → ℕ → Walked → Result
 after_walk initial dense_peak (finished w) = planned (plan_from initial dense_peak w)

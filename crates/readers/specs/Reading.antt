@@ -8,6 +8,7 @@ use Rattle.kernels.specs.declared.active.Complex64.{Complex64}
 use Rattle.kernels.specs.declared.active.ActivePauliAction.{ActivePauliAction}
 use Rattle.kernels.specs.declared.active.PrecomputedActivePauliRotationKernel.{PrecomputedActivePauliRotationKernel}
 use Rattle.kernels.specs.declared.active.PrecomputedActivePauliMeasurementKernel.{PrecomputedActivePauliMeasurementKernel}
+use Rattle.plan_spec.specs.Rows.{measurement_words, rotation_words}
 use Rattle.plan_spec.specs.Lists.{numbers_from}
 use Rattle.plan_rows.specs.declared.RowHead.{RowHead}
 use Rattle.plan_rows.specs.declared.RotationRow.{RotationRow}
@@ -92,10 +93,10 @@ abbrev pub step_at : List ℕ → ℕ → Option StepWords
 step_at ws i = row_read 2 step_in ws i
 
 abbrev pub rotation_at : List ℕ → ℕ → Option RotationRow
-rotation_at ws i = row_read 21 rotation_in ws i
+rotation_at ws i = row_read rotation_words rotation_in ws i
 
 abbrev pub measurement_at : List ℕ → ℕ → Option MeasurementRow
-measurement_at ws i = row_read 19 measurement_in ws i
+measurement_at ws i = row_read measurement_words measurement_in ws i
 
 -- ---- "rotation rows are also filled into a lent slice of row structs, with the same values; a short slice is filled to its end, and surplus structs are all zero"
 

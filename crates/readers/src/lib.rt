@@ -3,11 +3,13 @@
 
 ghost use Rattle.std.specs.Prelude.{◌≡◌, ℕ, ◌<◌, ◌≤◌, List, length};
 ghost use Rattle.readers.specs.Reading.{part_of, complex_in, head_in, action_in, rotation_in, measurement_in, step_in, row_read, step_at, rotation_at, measurement_at, rotation_or_zero, filled_rows};
+ghost use Rattle.plan_spec.specs.Rows.{measurement_words, rotation_words};
 
 use kernels::active::{
     ActivePauliAction, Complex64, PrecomputedActivePauliMeasurementKernel,
     PrecomputedActivePauliRotationKernel,
 };
+use plan_buffers::{MEASUREMENT_WORDS, ROTATION_WORDS};
 use records::float_of;
 use plan_rows::{MeasurementRow, RotationRow, RowHead};
 
@@ -82,9 +84,9 @@ fn action_of(row: &[u64]) -> ActivePauliAction
 }
 
 impl FromWords for RotationRow {
-    const WORDS: usize = 21;
+    const WORDS: usize = ROTATION_WORDS;
 
-    ghost WORDS = { 21 };
+    ghost WORDS = { rotation_words };
 
     ghost value = { rotation_in };
 
@@ -110,9 +112,9 @@ impl FromWords for RotationRow {
 }
 
 impl FromWords for MeasurementRow {
-    const WORDS: usize = 19;
+    const WORDS: usize = MEASUREMENT_WORDS;
 
-    ghost WORDS = { 19 };
+    ghost WORDS = { measurement_words };
 
     ghost value = { measurement_in };
 
@@ -171,7 +173,7 @@ pub fn reads()
 fn rotation_or_zero(rotations: &[u64], i: usize) -> RotationRow
     ensures { result ≡ rotation_or_zero rotations.now i }
 {
-    read(rotations, i as u64).unwrap_or(RotationRow::from_words(&[0; 21]))
+    read(rotations, i as u64).unwrap_or(RotationRow::from_words(&[0; ROTATION_WORDS]))
 }
 
 /// Fills a lent slice of row structs: struct i has the values of row i, and a struct past the last row is all zero.

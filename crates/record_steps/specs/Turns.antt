@@ -10,6 +10,7 @@ use Rattle.kernels.specs.declared.active.PrecomputedActivePauliRotationKernel.{P
 use Rattle.kernels.specs.declared.active.PrecomputedActivePauliMeasurementKernel.{PrecomputedActivePauliMeasurementKernel}
 use Rattle.records.specs.declared.Instruction.{Instruction}
 use Rattle.records.specs.declared.Instruction.TheVariants.{Rotation, Promotion, RecordMeasurement, RecordDetector, Measurement, Expectation, DormantBranch}
+use Rattle.plan_spec.specs.Rows.{measurement_words, rotation_words}
 use Rattle.plan_spec.specs.Walk.{rotation_row, measurement_row}
 use Rattle.masks.specs.Positions.{picked, reached_mask, Below512, sources_in, local_of}
 use Rattle.work_sums.specs.Tally.{joining_of, Countable, JoinFits, rotated_tally, measured_tally, promoted_tally}
@@ -108,7 +109,7 @@ pub record RotationDone (width index : ℕ) (join : Joining) (tally next : Tally
   pub sums : next ≡ rotated_tally tally join width
   pub step : steps' ≡ patch (2 * index) (2 ∷ tally.rotations ∷ []) steps
   pub size : sizes' ≡ raised sizes join
-  pub row : rotations' ≡ patch (21 * tally.rotations) (rotation_row join.target tally.merges join.count k) rotations
+  pub row : rotations' ≡ patch (rotation_words * tally.rotations) (rotation_row join.target tally.merges join.count k) rotations
 
 -- 14: 02, CR 4, "a component whose size is the ceiling or more", which is the limit here. "15: pivot >= k. 16: its coordinate is outside the target"
 abbrev pub pivot_answer : {K : Type 0} → ℕ → List ℕ → ℕ → ℕ → Joining → Answer K → Answer K
@@ -124,7 +125,7 @@ pub record MeasurementDone (width index : ℕ) (join : Joining) (tally next : Ta
   pub sums : next ≡ measured_tally tally join width
   pub step : steps' ≡ patch (2 * index) (4 ∷ tally.measurements ∷ []) steps
   pub size : sizes' ≡ raised sizes join
-  pub row : measurements' ≡ patch (19 * tally.measurements) (measurement_row join.target tally.merges join.count k (join.size == 1)) measurements
+  pub row : measurements' ≡ patch (measurement_words * tally.measurements) (measurement_row join.target tally.merges join.count k (join.size == 1)) measurements
 
 -- what a promotion asks
 pub record PromotionFits (next width index : ℕ) (tally : Tally) (steps sizes promotions : List ℕ) : Type 0 where

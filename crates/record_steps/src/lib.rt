@@ -7,6 +7,7 @@ ghost use Rattle.masks.specs.Positions.{local_of};
 ghost use Rattle.refusals.specs.Answer.{answer_of, given};
 ghost use Rattle.work_sums.specs.Tally.{joining_of};
 ghost use Rattle.record_steps.specs.Turns.{sources_at, GatherFits, WhereJoined, Opened, local_action_of, Settled, JoinedFits, pivot_answer, rotation_answer, RotationDone, measurement_answer, MeasurementDone, PromotionFits, PromotionDone};
+ghost use Rattle.plan_spec.specs.Rows.{measurement_words, rotation_words};
 
 use kernels::active::{
     ActivePauliAction, Angle, PrecomputedActivePauliMeasurementKernel,
@@ -143,7 +144,7 @@ pub fn rotate(
     rotations: &mut [u64],
 ) -> Result<Tally, Reason>
     requires joined_fits { JoinedFits place.now pauli.x pauli.z turn.width turn.index join tally steps.old sizes.old }
-    requires row_room { 21 * tally.rotations + 21 ≤ length rotations.old }
+    requires row_room { rotation_words * tally.rotations + rotation_words ≤ length rotations.old }
     ensures { Settled (rotation_answer turn.limit place.now pauli.x pauli.z pauli.phase angle.value angle.sine angle.cosine turn.width join.size) result
         (λ next. RotationDone turn.width turn.index join tally next steps.old sizes.old rotations.old steps.new sizes.new rotations.new) }
 {
@@ -191,7 +192,7 @@ pub fn measure<'a>(
     measurements: &mut [u64],
 ) -> Result<Tally, Reason>
     requires joined_fits { JoinedFits place.now pauli.x pauli.z turn.width turn.index join tally steps.old sizes.old }
-    requires row_room { 19 * tally.measurements + 19 ≤ length measurements.old }
+    requires row_room { measurement_words * tally.measurements + measurement_words ≤ length measurements.old }
     ensures { Settled (measurement_answer turn.limit component.now place.now pauli.x pauli.z pauli.phase pivot turn.width join) result
         (λ next. MeasurementDone turn.width turn.index join tally next steps.old sizes.old measurements.old steps.new sizes.new measurements.new) }
 {

@@ -1,6 +1,7 @@
 -- What reading any list of bytes gives: refusals 21, 22 and 23 in this order, and else the sections. Written from 02, CR 2: "Reading looks at the trailer and
 -- component_count only and hands every other word back unjudged".
 use Rattle.std.specs.Prelude.{if◌then◌else◌, ℕ, ◌+◌, ◌-◌, ◌*◌, ◌/◌, ◌%◌, List, [], ◌∷◌, map, Bool, true, false, not, ◌&&◌, ◌||◌, length, get_or, nat_lt, ◌==◌}
+use Rattle.plan_spec.specs.Rows.{measurement_words, rotation_words}
 use Rattle.plan_spec.specs.Lists.{numbers_from}
 use Rattle.plan_buffers.specs.declared.WordCounts.{WordCounts}
 use Rattle.plan_buffers.specs.Stored.{outputs_short}
@@ -70,7 +71,7 @@ counts_of k = record {
 abbrev pub odd_counts : WordCounts → ℕ → Bool
 odd_counts counts components =
     not ((counts.steps % 2) == 0) || not (counts.sizes == components)
-    || not ((counts.rotations % 21) == 0) || not ((counts.measurements % 19) == 0)
+    || not ((counts.rotations % rotation_words) == 0) || not ((counts.measurements % measurement_words) == 0)
 
 -- 23, "a scalar count that is not 8" too; component_count is the third scalar field
 abbrev pub counts_refused : WordCounts → Kept → Bool

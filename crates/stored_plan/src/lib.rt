@@ -13,7 +13,7 @@ ghost use Rattle.stored_plan.specs.Loading.{Loads, number_of, scalar_list, trail
 
 use file_words::{get_words, word_at};
 use plan_buffers::buffers::fill_from;
-use plan_buffers::{StoredOutputs, WordCounts};
+use plan_buffers::{MEASUREMENT_WORDS, ROTATION_WORDS, StoredOutputs, WordCounts};
 use refusals::Reason;
 
 /// The words of the eight scalar fields, as a file has them.
@@ -93,8 +93,8 @@ fn counts_odd(counts: WordCounts, components: u64) -> bool
 {
     counts.steps % 2 != 0
         || counts.sizes as u64 != components
-        || counts.rotations % 21 != 0
-        || counts.measurements % 19 != 0
+        || counts.rotations % ROTATION_WORDS != 0
+        || counts.measurements % MEASUREMENT_WORDS != 0
 }
 
 // Refusals 21 to 23, or else the trailer.

@@ -4,6 +4,7 @@
 
 ghost use Rattle.std.specs.Prelude.{◌≡◌, ◌+◌, ◌*◌, ◌<◌, ◌≤◌, ℕ, List, [], ◌∷◌, length, set};
 ghost use Rattle.records.specs.Record.{instructions_of};
+ghost use Rattle.plan_spec.specs.Rows.{measurement_words, rotation_words};
 ghost use Rattle.plan_spec.specs.Walk.{start, walk_from};
 ghost use Rattle.plan_buffers.specs.Outputs.{buffers_of};
 ghost use Rattle.plan_buffers.specs.Stored.{SameOutputs};
@@ -108,7 +109,7 @@ fn rotation(
     out: &mut StoredOutputs,
 ) -> Result<(), Reason>
     requires joined_fits { JoinedFits place.now pauli.x pauli.z turn.width turn.index join tally.old out.old.steps.now out.old.sizes.now }
-    requires row_room { 21 * tally.old.rotations + 21 ≤ length out.old.rotations.now }
+    requires row_room { rotation_words * tally.old.rotations + rotation_words ≤ length out.old.rotations.now }
     ensures same { SameOutputs out.old out.new }
     ensures kept { (out.new.merges.now ≡ out.old.merges.now) × (out.new.promotions.now ≡ out.old.promotions.now) × (out.new.measurements.now ≡ out.old.measurements.now) }
     ensures settled { Settled (rotation_answer turn.limit place.now pauli.x pauli.z pauli.phase angle.value angle.sine angle.cosine turn.width join.size) result
@@ -162,7 +163,7 @@ fn measurement(
     out: &mut StoredOutputs,
 ) -> Result<(), Reason>
     requires joined_fits { JoinedFits state.old.place pauli.x pauli.z turn.width turn.index join tally.old out.old.steps.now out.old.sizes.now }
-    requires row_room { 19 * tally.old.measurements + 19 ≤ length out.old.measurements.now }
+    requires row_room { measurement_words * tally.old.measurements + measurement_words ≤ length out.old.measurements.now }
     requires leaves { Leaves (measurement_answer turn.limit state.old.component state.old.place pauli.x pauli.z pauli.phase pivot turn.width join) state.old pivot }
     ensures same { SameOutputs out.old out.new }
     ensures kept { (out.new.merges.now ≡ out.old.merges.now) × (out.new.rotations.now ≡ out.old.rotations.now) × (out.new.promotions.now ≡ out.old.promotions.now) }
