@@ -6,7 +6,7 @@ use Rattle.std.specs.Float.{inf, fin}
 -- 01, section 1: the ones of a 64-bit word are odd in number
 unfoldable pub odd_ones : ℕ → Bool
 unfolding ones_in
-odd_ones x = ((ones_in 64 x % 2) == 1)
+odd_ones x = ones_in 64 x % 2 == 1
 
 -- 01, section 1: the highest set bit, from the leading zeros. The word 0 has 64 of them, and gives 0
 unfoldable pub highest_bit : ℕ → ℕ
@@ -26,5 +26,5 @@ abbrev pub exp2 : ℕ → Float
 exp2 k = if nat_le k 1023 then fin false 1 (pos k) else inf false
 
 -- 01, refusals 1 and 14: the dimension of k coordinates is 2 ^ k below the limit: 62 in 01, and the head's ceiling since 02's CR 4. A word holds none from 2 ^ 64 on
-unfoldable pub dimension : ℕ → ℕ → Option ℕ
+unfoldable pub dimension : (limit coordinates : ℕ) → Option ℕ
 dimension limit k = if nat_lt k (min limit 64) then Some (2 ^ k) else None

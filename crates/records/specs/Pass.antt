@@ -7,6 +7,16 @@ use Rattle.refusals.specs.Numbers as Reasons
 use Rattle.refusals.specs.declared.Refusal.{Refusal}
 use Rattle.records.specs.Record.{kind, width, phase, angle, sine, cosine, flag, records_of, chunks}
 
+-- "width > 62", "phase > 3", "the 513th coordinate"
+abbrev pub most_width : ℕ
+most_width = 62
+
+abbrev pub most_phase : ℕ
+most_phase = 3
+
+abbrev pub most_coordinates : ℕ
+most_coordinates = 512
+
 -- 1 and -1: `fin s m e` is m * 2 ^ e, negative where s is true
 abbrev pub one : Float
 one = fin Bool.false 1 (pos 0)
@@ -24,7 +34,10 @@ within_one x = within minus_one one x
 
 -- "6: width > 62. 7: phase > 3". A number 0 says that the record passes.
 unfoldable pub action_number : List ℕ → ℕ
-action_number r = if nat_lt 62 (width r) then 6 else (if nat_lt 3 (phase r) then 7 else 0)
+action_number r =
+    if nat_lt most_width (width r) then 6
+    else if nat_lt most_phase (phase r) then 7
+    else 0
 
 -- "8: angle not finite, or sine or cosine not in -1 to 1"
 unfoldable pub floats_number : List ℕ → ℕ
@@ -60,7 +73,7 @@ rotation_number r = or_else (action_number r) (or_else (floats_number r) (square
 
 -- "10: a promotion that would make the 513th coordinate"
 unfoldable pub promotion_number : (coordinates : ℕ) → ℕ
-promotion_number coordinates = if nat_lt coordinates 512 then 0 else 10
+promotion_number coordinates = if nat_lt coordinates most_coordinates then 0 else 10
 
 -- By the flag. "9: flag > 1 (checked before 6)". Flag 1 leaves width and phase unread (01, section 2).
 unfoldable pub measurement_number : List ℕ → ℕ
@@ -69,15 +82,24 @@ measurement_number r = get_or (action_number r ∷ 0 ∷ []) (flag r) 9
 -- the numbers by kind, 0 to 5 in the order of 01, section 2; `coordinates` is how many there are before the record
 abbrev pub numbers_by_kind : (coordinates : ℕ) → List ℕ → List ℕ
 numbers_by_kind coordinates r =
-    rotation_number r ∷ promotion_number coordinates ∷ 0 ∷ 0 ∷ measurement_number r ∷ 0 ∷ []
+    rotation_number r
+    ∷ promotion_number coordinates
+    ∷ 0 -- a record measurement
+    ∷ 0 -- a record detector
+    ∷ measurement_number r
+    ∷ 0 -- a dormant branch
+    ∷ []
 
 -- "5: kind > 5"
 unfoldable pub number_of : (coordinates : ℕ) → List ℕ → ℕ
 number_of coordinates r = get_or (numbers_by_kind coordinates r) (kind r) 5
 
+abbrev pub is_promotion : List ℕ → Bool
+is_promotion r = kind r == 1
+
 -- a promotion makes one coordinate (01, section 4)
 abbrev pub coordinates_after : (coordinates : ℕ) → List ℕ → ℕ
-coordinates_after coordinates r = if (kind r == 1) then suc coordinates else coordinates
+coordinates_after coordinates r = if is_promotion r then suc coordinates else coordinates
 
 -- the record pass's answer: "A refusal returns its number and record index"
 pub data Checked : Type 0 where

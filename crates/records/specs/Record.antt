@@ -5,6 +5,10 @@ use Rattle.std.specs.Float.Ieee.{of_bits}
 use Rattle.records.specs.declared.Instruction.{Instruction}
 use Rattle.records.specs.declared.Instruction.TheVariants.{Rotation, Promotion, RecordMeasurement, RecordDetector, Measurement, Expectation, DormantBranch}
 
+-- "A record is eight 64-bit words"
+abbrev pub record_words : ℕ
+record_words = 8
+
 -- Word j of a record, and 0 where the record has no such word.
 abbrev pub word_of : List ℕ → ℕ → ℕ
 word_of r j = get_or r j 0
@@ -62,18 +66,22 @@ instructions_by_kind r =
 unfoldable pub instruction_of : List ℕ → Instruction
 instruction_of r = get_or (instructions_by_kind r) (kind r) DormantBranch
 
--- "A record is eight 64-bit words": record i of the words
+-- record i of the words
 abbrev pub record_at : List ℕ → ℕ → List ℕ
-record_at ws i = take 8 (drop (8 * i) ws)
+record_at ws i = take record_words (drop (record_words * i) ws)
 
 -- the first n records
 unfoldable pub chunks : ℕ → List ℕ → List (List ℕ)
 chunks zero ws = []
-chunks (suc n) ws = take 8 ws ∷ chunks n (drop 8 ws)
+chunks (suc n) ws = take record_words ws ∷ chunks n (drop record_words ws)
+
+-- how many whole records the words have
+abbrev pub record_count : List ℕ → ℕ
+record_count ws = length ws / record_words
 
 -- The whole records, in order. Words after the last whole record are in none.
 unfoldable pub records_of : List ℕ → List (List ℕ)
-records_of ws = chunks (length ws / 8) ws
+records_of ws = chunks (record_count ws) ws
 
 -- The instructions, in order. To unfold this name is to unfold all that it computes by.
 unfoldable pub instructions_of : List ℕ → List Instruction

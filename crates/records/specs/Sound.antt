@@ -1,11 +1,11 @@
 -- What follows from the record pass's answer: of each record that it lets through (01, "Where planning stops", refusals 5 to 9; 02, CR 5,
 -- refusal 25), of the coordinates (refusal 10), and of a refusal.
-use Rattle.std.specs.Prelude.{ℕ, ◌/◌, ◌≤◌, ◌<◌, ◌≡◌, not, ◌&&◌, ◌⊎◌, List, [], ◌∷◌, Bool, T, length, pos, Float}
+use Rattle.std.specs.Prelude.{ℕ, ◌≤◌, ◌<◌, ◌≡◌, not, ◌&&◌, ◌⊎◌, List, [], ◌∷◌, Bool, T, pos, Float}
 use Rattle.std.specs.Float.{fin}
 use Rattle.std.specs.Float.Ieee.{is_nan, le, eq}
 use Rattle.std.specs.Float.Ieee.Scale.{finite}
-use Rattle.records.specs.Record.{kind, width, phase, angle, sine, cosine, flag}
-use Rattle.records.specs.Pass.{one, minus_one, least_sum, most_sum, square_sum, coordinates_after}
+use Rattle.records.specs.Record.{record_count, kind, width, phase, angle, sine, cosine, flag}
+use Rattle.records.specs.Pass.{most_width, most_phase, one, minus_one, least_sum, most_sum, square_sum, coordinates_after}
 
 -- a number in -1 to 1 (refusal 8)
 pub record InUnitRange (x : Float) : Type 0 where
@@ -25,8 +25,8 @@ pub record UnitPair (s c : Float) : Type 0 where
 
 -- refusals 6 and 7
 pub record SoundAction (r : List ℕ) : Type 0 where
-  pub width_small : width r ≤ 62
-  pub phase_small : phase r ≤ 3
+  pub width_small : width r ≤ most_width
+  pub phase_small : phase r ≤ most_phase
 
 -- refusals 6 to 8 and 25, of a rotation
 pub record SoundRotation (r : List ℕ) : Type 0 where
@@ -59,4 +59,4 @@ PassNumber number = ((5 ≤ number) × (number ≤ 10)) ⊎ (number ≡ 25)
 -- a refusal of the words, by its number and its record's index
 pub record Refusal (ws : List ℕ) (number index : ℕ) : Type 0 where
   pub number_of_pass : PassNumber number
-  pub index_below : index < length ws / 8
+  pub index_below : index < record_count ws
