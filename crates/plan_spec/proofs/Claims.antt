@@ -16,7 +16,7 @@ use Rattle.plan_spec.specs.Lists.{place_of, numbers_from, total, concat}
 use Rattle.plan_spec.specs.Components.{support, local_mask, live_dimension, amplitudes}
 use Rattle.plan_spec.specs.Walk.{Walk, join_of, local_action, start, no_step, ignored_step, promotion_step, rotation_step, measurement_step, row_head, rotation_row, measurement_row}
 use Rattle.plan_spec.specs.Plan.{Plan, plan_from}
-use Rattle.plan_spec.specs.Connectivity.{Member, ActiveOrder, active_start, active_step, active_after, with_links, advanced, support_of, rotation_at, measurement_at, replay_joined, replay_after, longest_of, LocalBits, JoinHolds, JoinClaim, is_promotion, is_measurement}
+use Rattle.plan_spec.specs.Connectivity.{Member, ActiveOrder, active_start, active_step, active_after, with_links, advanced, support_of, rotation_at, measurement_at, replay_joined, replay_after, longest_of, LocalBits, JoinHolds, JoinClaim, promotions_in, measurements_in}
 use Rattle.plan_spec.proofs.Counting.{place_below, place_holds, member_at, length_remove_at, length-numbers}
 use Rattle.plan_spec.proofs.Steps.{Stepped, ignored, rotated, promoted, measured, recorded, detected, expected, branched, Run, done, more}
 use Rattle.plan_spec.proofs.Joins.{gathered_from, gathered_holds}
@@ -50,7 +50,7 @@ concat_numbers (x ∷ cs) (suc n) h =
 
 -- ---- how many are active
 
-step_count : {limit : ℕ} {w v : Walk} {i : Instruction} → Stepped limit w i v → length v.order + is_measurement i ≡ length w.order + is_promotion i
+step_count : {limit : ℕ} {w v : Walk} {i : Instruction} → Stepped limit w i v → length v.order + measurements_in i ≡ length w.order + promotions_in i
 unfolding no_step ignored_step promotion_step rotation_step measurement_step
 step_count (ignored x z phase angle sine cosine empty) = refl
 step_count (rotated width x z phase angle sine cosine k wide active small fits made) = refl
@@ -66,7 +66,7 @@ unfolding start
 start_order k = length-numbers 0 k
 
 pub run_count : {limit : ℕ} {w u : Walk} {is : List Instruction} → Run limit w is u
-    → length u.order + total (map is_measurement is) ≡ length w.order + total (map is_promotion is)
+    → length u.order + total (map measurements_in is) ≡ length w.order + total (map promotions_in is)
 run_count (done w) = refl
 run_count (more s rest) = let e = step_count s in let f = run_count rest in omega arith
 

@@ -17,7 +17,7 @@ use Rattle.plan_spec.specs.Lists.{numbers_from, total, concat}
 use Rattle.plan_spec.specs.Components.{allocated_for}
 use Rattle.plan_spec.specs.Walk.{Walk, start}
 use Rattle.plan_spec.specs.Plan.{Lengths, Plan, planned, unread, plan_from, plan_of}
-use Rattle.plan_spec.specs.Connectivity.{occurrences, Member, NoRepeats, Rearranged, greatest, ActiveOrder, active_start, active_after, Linked, live_at, moments, replay_after, replay_members, SameComponent, longest_of, JoinClaim, is_promotion, is_measurement, Connected}
+use Rattle.plan_spec.specs.Connectivity.{occurrences, Member, NoRepeats, Rearranged, greatest, ActiveOrder, active_start, active_after, Linked, live_at, moments, replay_after, replay_members, SameComponent, longest_of, JoinClaim, promotions_in, measurements_in, Connected}
 use Rattle.plan_spec.proofs.Steps.{Stepped, Run, more, run_split}
 use Rattle.plan_spec.proofs.Classes.{class_linked}
 use Rattle.plan_spec.proofs.Live.{rearranged_length}
@@ -108,7 +108,7 @@ module _ (limit k dense_peak : ℕ) (is : List Instruction) (u : Walk) (run : Ru
     once : NoRepeats (replay_members plan (replay_after plan m))
     once a = let e = rearranged a in let o = at.tracked.holds.once a in omega arith
 
-    counted : length (replay_members plan (replay_after plan m)) + total (map is_measurement (take m is)) ≡ k + total (map is_promotion (take m is))
+    counted : length (replay_members plan (replay_after plan m)) + total (map measurements_in (take m is)) ≡ k + total (map promotions_in (take m is))
     counted =
         let e = rearranged_length (replay_members plan (replay_after plan m)) now_active.order rearranged in
         let o = ap length at.tracked.order_same in
@@ -150,7 +150,7 @@ module _ (limit k dense_peak : ℕ) (is : List Instruction) (u : Walk) (run : Ru
         (λ v i s g. step_claim k dense_peak u rotations_wide measurements_wide m now_active s at.steps_same g at.tracked at.follows) h
 
   -- the components are those at the start and one for each promotion
-  made : plan.component_count ≡ k + total (map is_promotion is)
+  made : plan.component_count ≡ k + total (map promotions_in is)
   unfolding plan_from
   made = component_count k run
 

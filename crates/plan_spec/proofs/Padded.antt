@@ -18,7 +18,7 @@ use Rattle.records.specs.declared.Instruction.TheVariants.{Rotation, Promotion, 
 use Rattle.plan_spec.specs.Lists.{numbers_from, total, concat}
 use Rattle.plan_spec.specs.Walk.{Written, Walk, start, no_step, ignored_step, promotion_step, rotation_step, measurement_step}
 use Rattle.plan_spec.specs.Plan.{Lengths, Plan, padded, plan_from}
-use Rattle.plan_spec.specs.Connectivity.{Member, NoRepeats, Rearranged, ActiveOrder, active_start, active_after, support_of, Replayed, replay_start, replay_join, kind_at, payload_at, row_at, rotation_at, measurement_at, listed_by, joined_by, replay_promotion, drop_member, changed_by, replay_joined, replay_after, replay_members, SameComponent, longest_of, JoinHolds, RotationJoin, MeasurementJoin, JoinClaim, is_measurement, Connected}
+use Rattle.plan_spec.specs.Connectivity.{Member, NoRepeats, Rearranged, ActiveOrder, active_start, active_after, support_of, Replayed, replay_start, replay_join, kind_at, payload_at, row_at, rotation_at, measurement_at, listed_by, joined_by, replay_promotion, drop_member, changed_by, replay_joined, replay_after, replay_members, SameComponent, longest_of, JoinHolds, RotationJoin, MeasurementJoin, JoinClaim, measurements_in, Connected}
 use Rattle.plan_spec.proofs.Counting.{same_or_not}
 use Rattle.plan_spec.proofs.Steps.{cond_yes, cond_no, Stepped, ignored, rotated, promoted, measured, recorded, detected, expected, branched, Run, done, more}
 use Rattle.plan_spec.proofs.Growth.{Extends, Grown, AllOf, AllInside, row-at, length_concat, grown_refl, grown_trans, run_grown, step_steps, run_rotations, run_measurements, run_inside, start_wide, start_inside}
@@ -310,7 +310,7 @@ module _ (p q : Plan) (pads : Pads p q) where
         no_repeats = subst NoRepeats (sym members) c.no_repeats;
         none_beyond = λ i g. ap (λ (b : Replayed). b i) after ∙ c.none_beyond i (let e = pads.component_count in omega arith);
         all_made = pads.component_count ∙ c.all_made;
-        count = ap (λ (l : List ℕ). length l + total (map is_measurement (take m is))) members ∙ c.count;
+        count = ap (λ (l : List ℕ). length l + total (map measurements_in (take m is))) members ∙ c.count;
         same_component = λ a b ma mb.
             let s = c.same_component a b ma mb in
             (λ x. s.0 (same_here (replay_after q m) (replay_after p m) after a b x), λ l. same_there (replay_after q m) (replay_after p m) after a b (s.1 l));

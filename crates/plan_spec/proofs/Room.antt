@@ -28,7 +28,7 @@ use Rattle.plan_spec.specs.Components.{gathered, emptied, joined, amplitudes, li
 use Rattle.plan_spec.specs.WholeWorks.{without_quotient}
 use Rattle.plan_spec.specs.Walk.{Written, Walk, Join, join_of, rotation_row, measurement_row, start, no_step, ignored_step, promotion_step, rotation_step, measurement_step}
 use Rattle.plan_spec.specs.Plan.{Lengths, Plan, planned, unread, unread_plan, groups_of, plan_from, buffers_refused, max_dimension, for_dense_peak, plan_of, Result, refused_at, padded, held_after}
-use Rattle.plan_spec.specs.Connectivity.{occurrences, Member, NoRepeats, ActiveOrder, active_start, active_step, active_after, is_promotion}
+use Rattle.plan_spec.specs.Connectivity.{occurrences, Member, NoRepeats, ActiveOrder, active_start, active_step, active_after, promotions_in}
 use Rattle.plan_spec.specs.Laws.{Fits, FitsIn}
 use Rattle.plan_spec.proofs.Counting.{same_or_not, one_here, none_here, member_head, member_tail, length_remove_at, length-numbers}
 use Rattle.plan_spec.proofs.Steps.{cond_yes, cond_no, Stepped, ignored, rotated, promoted, measured, recorded, detected, expected, branched, Run, done, more}
@@ -331,7 +331,7 @@ run_kept r (more {i = i} s rest) t narrow p =
     run_kept (active_step r i) rest (step_tracked r s t) (λ j h. narrow (suc j) (omega arith)) (step_kept r s t (narrow zero (omega arith)) p)
 
 -- a promotion makes one component, and nothing else does
-pub step_components : {limit : ℕ} {w v : Walk} {i : Instruction} → Stepped limit w i v → length v.components ≡ length w.components + is_promotion i
+pub step_components : {limit : ℕ} {w v : Walk} {i : Instruction} → Stepped limit w i v → length v.components ≡ length w.components + promotions_in i
 unfolding no_step ignored_step promotion_step rotation_step measurement_step
 step_components (ignored x z phase angle sine cosine e) = omega arith
 step_components {w = w} (rotated width x z phase angle sine cosine k e a b c d) = join_size x z w ∙ omega arith
@@ -344,7 +344,7 @@ step_components expected = omega arith
 step_components branched = omega arith
 
 -- so many in a run
-pub run_components : {limit : ℕ} {w u : Walk} {is : List Instruction} → Run limit w is u → length u.components ≡ length w.components + total (map is_promotion is)
+pub run_components : {limit : ℕ} {w u : Walk} {is : List Instruction} → Run limit w is u → length u.components ≡ length w.components + total (map promotions_in is)
 run_components (done w) = omega arith
 run_components (more s rest) = let e = step_components s in let f = run_components rest in omega arith
 
@@ -360,7 +360,7 @@ start_written k = (refl, refl)
 
 module _ {limit : ℕ} {is : List Instruction} {u : Walk} (k : ℕ) (run : Run limit (start k) is u) where
   -- as many components as coordinates ever made
-  pub component_count : length u.components ≡ k + total (map is_promotion is)
+  pub component_count : length u.components ≡ k + total (map promotions_in is)
   component_count = let e = run_components run in let f = start_components k in omega arith
 
   -- the state and the roll go together
@@ -447,15 +447,15 @@ passed_narrow k ws e i h =
     subst (λ (x : Instruction). width_of x ≤ 62) (sym (instruction_at ws i DormantBranch there)) (sound_narrow (record_at ws i) (passed_sound k ws e i there))
 
 -- a record counts as a coordinate exactly where its instruction is a promotion
-kind_promotion : (c : ℕ) (r : List ℕ) → coordinates_after c r ≡ c + is_promotion (instruction_of r)
+kind_promotion : (c : ℕ) (r : List ℕ) → coordinates_after c r ≡ c + promotions_in (instruction_of r)
 unfolding instruction_of measurement_of
 kind_promotion c r = by_kind (kind r)
   where
-    by_flag : (f : ℕ) → is_promotion (get_or (Measurement (width r) (x_mask r) (z_mask r) (phase r) (pivot r) ∷ []) f Expectation) ≡ 0
+    by_flag : (f : ℕ) → promotions_in (get_or (Measurement (width r) (x_mask r) (z_mask r) (phase r) (pivot r) ∷ []) f Expectation) ≡ 0
     by_flag zero = refl
     by_flag (suc f) = refl
 
-    by_kind : (n : ℕ) → cond (eqb n 1) (suc c) c ≡ c + is_promotion (get_or (instructions_by_kind r) n DormantBranch)
+    by_kind : (n : ℕ) → cond (eqb n 1) (suc c) c ≡ c + promotions_in (get_or (instructions_by_kind r) n DormantBranch)
     by_kind zero = omega arith
     by_kind (suc zero) = omega arith
     by_kind (suc (suc zero)) = omega arith
@@ -466,12 +466,12 @@ kind_promotion c r = by_kind (kind r)
         let m = suc (suc (suc (suc (suc (suc n))))) in cond_no (eqb m 1) (suc c) c (ne_eqb m 1 (λ e. omega arith)) ∙ omega arith
 
 -- so the coordinates that the pass counts are the start's and the promotions
-through_promotions : (c : ℕ) (rs : List (List ℕ)) → coordinates_through c rs ≡ c + total (map is_promotion (map instruction_of rs))
+through_promotions : (c : ℕ) (rs : List (List ℕ)) → coordinates_through c rs ≡ c + total (map promotions_in (map instruction_of rs))
 through_promotions c [] = omega arith
 through_promotions c (r ∷ rs) = let e = kind_promotion c r in let f = through_promotions (coordinates_after c r) rs in omega arith
 
 -- refusal 10: words that passed make no more than 512
-pub passed_promotions : (k : ℕ) (ws : List ℕ) → k ≤ 512 → record_pass k ws ≡ Passed → k + total (map is_promotion (instructions_of ws)) ≤ 512
+pub passed_promotions : (k : ℕ) (ws : List ℕ) → k ≤ 512 → record_pass k ws ≡ Passed → k + total (map promotions_in (instructions_of ws)) ≤ 512
 unfolding instructions_of
 passed_promotions k ws h e =
     let c = passed_coordinates k ws h e (length (records_of ws)) in

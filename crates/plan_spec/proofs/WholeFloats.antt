@@ -16,7 +16,7 @@ use lib.Ieee.Scale.{round_same}
 use lib.Ieee.Back.{round_whole}
 use borrow.Author.Tests.{leb-false}
 use Rattle.kernels.specs.Bits.{exp2}
-use Rattle.plan_spec.specs.Components.{size_of, two_f, cost_from, joining_cost}
+use Rattle.plan_spec.specs.Components.{size_of, float_two, cost_from, joining_cost}
 use Rattle.plan_spec.specs.WholeWorks.{whole_cost_from, whole_joining_cost}
 
 -- the float of a whole number
@@ -54,7 +54,7 @@ add_whole (fin false m e) (fin false n d) a b h k =
         let q = ap (λ (n : ℕ). n * e) k in omega arith
 
 -- twice
-pub double_whole : (x : Float) (a : ℕ) → HasValue x false a 1 → mul binary64 two_f x ≡ whole_float (2 * a)
+pub double_whole : (x : Float) (a : ℕ) → HasValue x false a 1 → mul binary64 float_two x ≡ whole_float (2 * a)
 unfolding mul of_int
 double_whole nan a h = absurd h
 double_whole (inf s) a h = absurd h
@@ -75,8 +75,8 @@ power_value k h = go (leb k 1023) refl
     go false e = let l = leb-false k 1023 e in let p = pow_mono {i = 54} {j = k} (omega arith) in absurd (omega arith)
 
 -- and twice it
-pub double_value : (k : ℕ) → 2 * 2 ^ k ≤ 2 ^ 53 → HasValue (mul binary64 two_f (exp2 k)) false (2 * 2 ^ k) 1
-double_value k h = value_of (mul binary64 two_f (exp2 k)) (2 * 2 ^ k) (double_whole (exp2 k) (2 ^ k) (power_value k (omega arith))) h
+pub double_value : (k : ℕ) → 2 * 2 ^ k ≤ 2 ^ 53 → HasValue (mul binary64 float_two (exp2 k)) false (2 * 2 ^ k) 1
+double_value k h = value_of (mul binary64 float_two (exp2 k)) (2 * 2 ^ k) (double_whole (exp2 k) (2 ^ k) (power_value k (omega arith))) h
 
 -- a joining cost, from any sum so far
 cost_whole : (cs : List (List ℕ)) (size n : ℕ) (so_far : Float) (ss : List ℕ) → so_far ≡ whole_float n → n + whole_cost_from cs size ss ≤ 2 ^ 53
@@ -84,8 +84,8 @@ cost_whole : (cs : List (List ℕ)) (size n : ℕ) (so_far : Float) (ss : List �
 cost_whole cs size n so_far [] e h = e ∙ ap whole_float (omega arith)
 cost_whole cs size n so_far (s ∷ ss) e h =
     let grown = size + size_of cs s in
-    cost_whole cs grown (n + 2 * 2 ^ grown) (add binary64 so_far (mul binary64 two_f (exp2 grown))) ss
-    (add_whole so_far (mul binary64 two_f (exp2 grown)) n (2 * 2 ^ grown) (value_of so_far n e (omega arith)) (double_value grown (omega arith)))
+    cost_whole cs grown (n + 2 * 2 ^ grown) (add binary64 so_far (mul binary64 float_two (exp2 grown))) ss
+    (add_whole so_far (mul binary64 float_two (exp2 grown)) n (2 * 2 ^ grown) (value_of so_far n e (omega arith)) (double_value grown (omega arith)))
     (omega arith)
     ∙ ap whole_float (omega arith)
 

@@ -19,7 +19,7 @@ use Rattle.records.specs.Record.{instructions_of}
 use Rattle.records.specs.declared.Head.{Head}
 use Rattle.records.specs.declared.Instruction.{Instruction}
 use Rattle.records.proofs.Laws.{instructions_length}
-use Rattle.plan_spec.specs.Components.{size_of, two_f, gathered, amplitudes, live_dimension, joining_cost}
+use Rattle.plan_spec.specs.Components.{size_of, float_two, gathered, amplitudes, live_dimension, joining_cost}
 use Rattle.plan_spec.specs.WholeWorks.{WholeSums, whole_cost_from, whole_joining_cost, too_wide, without_quotient, with_quotient, quotient_of, whole_works_of}
 use Rattle.plan_spec.specs.Walk.{Walk, join_of, start, no_step, ignored_step, promotion_step, rotation_step, measurement_step}
 use Rattle.plan_spec.specs.Plan.{Lengths, Plan, planned, unread, unread_plan, plan_from, plan_of}
@@ -200,7 +200,7 @@ step_exactly {w = w} r b promoted t inside narrow few p =
       dense_most = omega arith;
       component_most = omega arith;
       dense =
-          add_whole w.dense_work (mul binary64 two_f (exp2 n)) w.whole.dense (2 * 2 ^ n) (value_of _ _ p.dense (omega arith)) (double_value n (omega arith));
+          add_whole w.dense_work (mul binary64 float_two (exp2 n)) w.whole.dense (2 * 2 ^ n) (value_of _ _ p.dense (omega arith)) (double_value n (omega arith));
       component =
           add_whole w.component_work (fin false 17 (pos 1)) w.whole.component 34 (value_of _ _ p.component (omega arith)) (value_of _ 34 thirty_four (omega arith));
     }
@@ -215,12 +215,12 @@ step_exactly {w = w} r b (measured width x z phase pivot k wide active small fit
       dense_most = omega arith;
       component_most = omega arith;
       dense =
-          add_whole w.dense_work (mul binary64 two_f (exp2 n)) w.whole.dense (2 * 2 ^ n) (value_of _ _ p.dense (omega arith)) (double_value n (omega arith));
+          add_whole w.dense_work (mul binary64 float_two (exp2 n)) w.whole.dense (2 * 2 ^ n) (value_of _ _ p.dense (omega arith)) (double_value n (omega arith));
       component =
-          joined_sum w.component_work (joining_cost w.components j.sources) (add binary64 (mul binary64 two_f (exp2 (length j.members))) (fin false 1 (pos 5)))
+          joined_sum w.component_work (joining_cost w.components j.sources) (add binary64 (mul binary64 float_two (exp2 (length j.members))) (fin false 1 (pos 5)))
           w.whole.component j.cost (2 * 2 ^ length j.members + 32)
           p.component (joining_whole w.components j.sources (omega arith))
-          (add_whole (mul binary64 two_f (exp2 (length j.members))) (fin false 1 (pos 5)) (2 * 2 ^ length j.members) 32
+          (add_whole (mul binary64 float_two (exp2 (length j.members))) (fin false 1 (pos 5)) (2 * 2 ^ length j.members) 32
           (double_value (length j.members) (omega arith)) (value_of _ 32 thirty_two (omega arith)))
           (omega arith);
     }

@@ -10,7 +10,7 @@ use lib.IntN.{pos}
 use lib.Ieee.{Float, fin, Format, binary64, prec, emax, low, size, nearest, round, units, odd, sum, add, mul, is_nan}
 use Rattle.kernels.specs.Bits.{exp2}
 use Rattle.records.specs.declared.Instruction.{Instruction}
-use Rattle.plan_spec.specs.Components.{size_of, two_f, cost_from, joining_cost}
+use Rattle.plan_spec.specs.Components.{size_of, float_two, cost_from, joining_cost}
 use Rattle.plan_spec.specs.Walk.{Walk, start, join_of, no_step, ignored_step, promotion_step, rotation_step, measurement_step}
 use Rattle.plan_spec.specs.Laws.{NonNegative, infinite, number, NonNegativeWorks}
 use Rattle.plan_spec.proofs.Steps.{Stepped, ignored, rotated, promoted, measured, recorded, detected, expected, branched, Run, done, more}
@@ -60,7 +60,7 @@ pub exp2_nonneg : (k : ℕ) → NonNegative (exp2 k)
 exp2_nonneg k = cond_nonneg (leb k 1023) _ _ (number 1 (pos k)) infinite
 
 -- twice such a value: the factor 2 is not 0, so an infinity stays one
-pub double_nonneg : (f : Format) {x : Float} → NonNegative x → NonNegative (mul f two_f x)
+pub double_nonneg : (f : Format) {x : Float} → NonNegative x → NonNegative (mul f float_two x)
 unfolding mul
 double_nonneg f infinite = infinite
 double_nonneg f (number m e) = round_nonneg f _ _

@@ -13,9 +13,11 @@ abbrev pub size_of : List (List ℕ) → ℕ → ℕ
 size_of cs c = length (members_of cs c)
 
 -- "the active positions ... set in x or z": the coordinates at these positions. Bits at or above the width meet no position
-abbrev pub support : ℕ → ℕ → List ℕ → List ℕ
+abbrev pub support : (x z : ℕ) → (order : List ℕ) → List ℕ
 support x z [] = []
-support x z (c ∷ order) = let rest = support (x / 2) (z / 2) order in (if ((x % 2 + z % 2) == 0) then rest else c ∷ rest)
+support x z (c ∷ order) =
+    let rest = support (x / 2) (z / 2) order in
+    if x % 2 + z % 2 == 0 then rest else c ∷ rest
 
 -- "if none, the component of the first active coordinate"
 abbrev pub or_first : List ℕ → List ℕ → List ℕ
@@ -23,15 +25,17 @@ or_first order [] = take 1 order
 or_first order (c ∷ s) = c ∷ s
 
 -- the coordinates whose components an instruction touches
-abbrev pub reached : ℕ → ℕ → List ℕ → List ℕ
+abbrev pub reached : (x z : ℕ) → (order : List ℕ) → List ℕ
 reached x z order = or_first order (support x z order)
 
 -- "Touched: components of" these coordinates, ascending; n is the number of the first component listed
 abbrev pub meeting : ℕ → List ℕ → List (List ℕ) → List ℕ
 meeting n s [] = []
-meeting n s (m ∷ cs) = let rest = meeting (suc n) s cs in (if meet s m then n ∷ rest else rest)
+meeting n s (m ∷ cs) =
+    let rest = meeting (suc n) s cs in
+    if meet s m then n ∷ rest else rest
 
-unfoldable pub touched : ℕ → ℕ → List ℕ → List (List ℕ) → List ℕ
+unfoldable pub touched : (x z : ℕ) → (order : List ℕ) → (components : List (List ℕ)) → List ℕ
 touched x z order cs = meeting 0 (reached x z order) cs
 
 -- "the largest touched, smallest number on a tie": a later one has to be larger
@@ -61,14 +65,16 @@ unfoldable pub joined : List (List ℕ) → List ℕ → List (List ℕ)
 joined cs [] = cs
 joined cs (target ∷ others) = set (emptied others cs) target (gathered cs (target ∷ others))
 
--- "the sum, from 0, of 2·2^(size so far) after each source but the target"
-abbrev pub two_f : Float
-two_f = fin false 1 (pos 1)
+-- the float 2
+abbrev pub float_two : Float
+float_two = fin false 1 (pos 1)
 
+-- "the sum, from 0, of 2·2^(size so far) after each source but the target"
 abbrev pub cost_from : List (List ℕ) → ℕ → Float → List ℕ → Float
 cost_from cs size sum [] = sum
 cost_from cs size sum (s ∷ ss) =
-    let grown = size + size_of cs s in cost_from cs grown (add binary64 sum (mul binary64 two_f (exp2 grown))) ss
+    let grown = size + size_of cs s in
+    cost_from cs grown (add binary64 sum (mul binary64 float_two (exp2 grown))) ss
 
 unfoldable pub joining_cost : List (List ℕ) → List ℕ → Float
 joining_cost cs [] = fin false 0 (pos 0)

@@ -5,7 +5,7 @@ use mathlib.Core.List.{List, [], ◌∷◌, ◌++◌, map, Memᴰ}
 use Rattle.kernels.specs.Bits.{bit_at}
 use Rattle.records.specs.declared.Instruction.{Instruction}
 use Rattle.records.specs.declared.Instruction.TheVariants.{Rotation, Promotion, RecordMeasurement, RecordDetector, Measurement, Expectation, DormantBranch}
-use Rattle.plan_spec.specs.Rows.{measurement_words, rotation_words}
+use Rattle.plan_spec.specs.Rows.{measurement_words, rotation_words, rotation_kind, promotion_kind, measurement_kind, row_component, merge_offset, merge_count, row_width, row_x, row_z, row_pivot}
 use Rattle.plan_spec.specs.Lists.{is_in, remove_at, numbers_from, total, concat}
 use Rattle.plan_spec.specs.Components.{amplitudes}
 use Rattle.plan_spec.specs.Plan.{Plan}
@@ -15,7 +15,7 @@ use Rattle.plan_spec.specs.Plan.{Plan}
 -- how often a stands in the list
 abbrev pub occurrences : ℕ → List ℕ → ℕ
 occurrences a [] = zero
-occurrences a (b ∷ bs) = (if (a == b) then 1 else 0) + occurrences a bs
+occurrences a (b ∷ bs) = (if a == b then 1 else 0) + occurrences a bs
 
 abbrev pub Member : ℕ → List ℕ → Type 0
 Member a xs = 0 < occurrences a xs
@@ -29,7 +29,9 @@ NoRepeats xs = (a : ℕ) → occurrences a xs ≤ 1
 -- the entries that pass a test, in order
 abbrev pub keep : (ℕ → Bool) → List ℕ → List ℕ
 keep p [] = []
-keep p (a ∷ xs) = let rest = keep p xs in (if p a then a ∷ rest else rest)
+keep p (a ∷ xs) =
+    let rest = keep p xs in
+    if p a then a ∷ rest else rest
 
 abbrev pub greatest : List ℕ → ℕ
 greatest [] = zero
@@ -48,8 +50,11 @@ abbrev pub active_start : ℕ → ActiveOrder
 active_start k = record { order = numbers_from 0 k; next = k; links = [] }
 
 -- "the entries, before the record, at positions below the width with a set x or z bit"
-unfoldable pub support_of : ℕ → ℕ → ℕ → List ℕ → List ℕ
-support_of width x z order = map (λ p. get_or order p 0) (keep (λ p. not (bit_at x p == 0) || not (bit_at z p == 0)) (numbers_from 0 width))
+abbrev pub is_set : (x z position : ℕ) → Bool
+is_set x z p = not (bit_at x p == 0) || not (bit_at z p == 0)
+
+unfoldable pub support_of : (width x z : ℕ) → (order : List ℕ) → List ℕ
+support_of width x z order = map (λ p. get_or order p 0) (keep (is_set x z) (numbers_from 0 width))
 
 -- "A support, which only a rotation or flag-0 measurement has": the order as before the record, and its support among the links
 unfoldable pub with_links : ActiveOrder → Instruction → ActiveOrder
@@ -103,7 +108,7 @@ class_of links = class_from (λ c. c) links
 -- "Chains gather the roll's entries into sets": the entries of each class, in order; a class with no active entry gives the empty list
 unfoldable pub sets_of : ActiveOrder → List (List ℕ)
 unfolding class_of
-sets_of r = map (λ v. keep (λ a. (class_of r.links a == v)) r.order) (numbers_from 0 r.next)
+sets_of r = map (λ v. keep (λ a. class_of r.links a == v) r.order) (numbers_from 0 r.next)
 
 -- "The live dimension is the sum of 2^(entries) over these sets"
 unfoldable pub live_at : ActiveOrder → ℕ
@@ -150,7 +155,10 @@ joined_members b (s ∷ ss) = b s ++ joined_members b ss
 -- "a row joins its listed bins into the first, in order, and empties the others"
 abbrev pub replay_join : List ℕ → Replayed → Replayed
 replay_join [] b i = b i
-replay_join (first ∷ others) b i = if (i == first) then joined_members b (first ∷ others) else (if is_in i others then [] else b i)
+replay_join (first ∷ others) b i =
+    if i == first then joined_members b (first ∷ others)
+    else if is_in i others then []
+    else b i
 
 -- step m's kind and payload; the row that a payload names, in rows of so many words; the part of the merge list that a row names
 abbrev pub kind_at : Plan → ℕ → ℕ
@@ -159,7 +167,7 @@ kind_at p m = get_or p.steps (2 * m) 0
 abbrev pub payload_at : Plan → ℕ → ℕ
 payload_at p m = get_or p.steps (suc (2 * m)) 0
 
-abbrev pub row_at : ℕ → List ℕ → ℕ → List ℕ
+abbrev pub row_at : (size : ℕ) → (rows : List ℕ) → (payload : ℕ) → List ℕ
 row_at size rows payload = take size (drop (size * payload) rows)
 
 abbrev pub rotation_at : Plan → ℕ → List ℕ
@@ -168,24 +176,31 @@ rotation_at p m = row_at rotation_words p.rotations (payload_at p m)
 abbrev pub measurement_at : Plan → ℕ → List ℕ
 measurement_at p m = row_at measurement_words p.measurements (payload_at p m)
 
-abbrev pub listed_by : Plan → List ℕ → List ℕ
-listed_by p row = take (get_or row 2 0) (drop (get_or row 1 0) p.merges)
+abbrev pub promotion_at : Plan → ℕ → ℕ
+promotion_at p m = get_or p.promotions (payload_at p m) 0
 
--- just after the join of record m, by the kind of its step: 2 rotation, 4 measurement
-abbrev pub joined_by : ℕ → Plan → ℕ → Replayed → Replayed
+abbrev pub listed_by : Plan → List ℕ → List ℕ
+listed_by p row = take (merge_count row) (drop (merge_offset row) p.merges)
+
+-- just after the join of record m, by the kind of its step
+abbrev pub joined_by : (kind : ℕ) → Plan → ℕ → Replayed → Replayed
 joined_by kind p m b =
-    if (kind == 2) then replay_join (listed_by p (rotation_at p m)) b else (if (kind == 4) then replay_join (listed_by p (measurement_at p m)) b else b)
+    if kind == rotation_kind then replay_join (listed_by p (rotation_at p m)) b
+    else if kind == measurement_kind then replay_join (listed_by p (measurement_at p m)) b
+    else b
 
 -- "a promotion opens the bin that its row names, holding that number; a measurement then drops the member at its local pivot"
-abbrev pub replay_promotion : ℕ → Replayed → Replayed
-replay_promotion c b i = if (i == c) then c ∷ [] else b i
+abbrev pub replay_promotion : (component : ℕ) → Replayed → Replayed
+replay_promotion c b i = if i == c then c ∷ [] else b i
 
-abbrev pub drop_member : ℕ → ℕ → Replayed → Replayed
-drop_member c pivot b i = if (i == c) then remove_at pivot (b i) else b i
+abbrev pub drop_member : (component pivot : ℕ) → Replayed → Replayed
+drop_member c pivot b i = if i == c then remove_at pivot (b i) else b i
 
-abbrev pub changed_by : ℕ → Plan → ℕ → Replayed → Replayed
+abbrev pub changed_by : (kind : ℕ) → Plan → ℕ → Replayed → Replayed
 changed_by kind p m b =
-    if (kind == 3) then replay_promotion (get_or p.promotions (payload_at p m) 0) b else (if (kind == 4) then drop_member (get_or (measurement_at p m) 0 0) (get_or (measurement_at p m) 11 0) b else b)
+    if kind == promotion_kind then replay_promotion (promotion_at p m) b
+    else if kind == measurement_kind then drop_member (row_component (measurement_at p m)) (row_pivot (measurement_at p m)) b
+    else b
 
 unfoldable pub replay_joined : Plan → ℕ → Replayed → Replayed
 replay_joined p m b = joined_by (kind_at p m) p m b
@@ -212,6 +227,10 @@ longest_of p (suc m) i = max (longest_of p m i) (max (length (replay_joined p m 
 
 -- ---- the claims
 
+-- the members of the component that record m's row names, just after its join
+abbrev pub joined_at : Plan → ℕ → (row : List ℕ) → List ℕ
+joined_at p m row = replay_joined p m (replay_after p m) (row_component row)
+
 -- member j of a bin stands at a position of the order, and the local bits j are the record's bits there
 pub record LocalBits (order component : List ℕ) (x z local_x local_z j : ℕ) : Type 0 where
   pub position : ℕ
@@ -223,24 +242,22 @@ pub record LocalBits (order component : List ℕ) (x z local_x local_z j : ℕ) 
 -- "Just after a join, with the roll still as before the record": the row's bin
 pub record JoinHolds (order support component row : List ℕ) (x z : ℕ) : Type 0 where
   pub whole_support : (a : ℕ) → Member a support → Member a component
-  pub local_width : length component ≡ get_or row 3 0
-  pub bits : (j : ℕ) → j < get_or row 3 0 → LocalBits order component x z (get_or row 4 0) (get_or row 5 0) j
-  pub x_clear : (j : ℕ) → get_or row 3 0 ≤ j → bit_at (get_or row 4 0) j ≡ 0
-  pub z_clear : (j : ℕ) → get_or row 3 0 ≤ j → bit_at (get_or row 5 0) j ≡ 0
+  pub local_width : length component ≡ row_width row
+  pub bits : (j : ℕ) → j < row_width row → LocalBits order component x z (row_x row) (row_z row) j
+  pub x_clear : (j : ℕ) → row_width row ≤ j → bit_at (row_x row) j ≡ 0
+  pub z_clear : (j : ℕ) → row_width row ≤ j → bit_at (row_z row) j ≡ 0
 
 pub record RotationJoin (p : Plan) (m : ℕ) (r : ActiveOrder) (width x z : ℕ) : Type 0 where
-  pub kind : kind_at p m ≡ 2
-  pub holds :
-      JoinHolds r.order (support_of width x z r.order) (replay_joined p m (replay_after p m) (get_or (rotation_at p m) 0 0)) (rotation_at p m) x z
+  pub kind : kind_at p m ≡ rotation_kind
+  pub holds : JoinHolds r.order (support_of width x z r.order) (joined_at p m (rotation_at p m)) (rotation_at p m) x z
 
 -- "for a measurement its member at the local pivot is the roll's entry at the pivot"
 pub record MeasurementJoin (p : Plan) (m : ℕ) (r : ActiveOrder) (width x z pivot : ℕ) : Type 0 where
-  pub kind : kind_at p m ≡ 4
-  pub holds :
-      JoinHolds r.order (support_of width x z r.order) (replay_joined p m (replay_after p m) (get_or (measurement_at p m) 0 0)) (measurement_at p m) x z
+  pub kind : kind_at p m ≡ measurement_kind
+  pub holds : JoinHolds r.order (support_of width x z r.order) (joined_at p m (measurement_at p m)) (measurement_at p m) x z
   pub pivot_active : pivot < length r.order
-  pub pivot_local : get_or (measurement_at p m) 11 0 < get_or (measurement_at p m) 3 0
-  pub pivot_same : get_or (replay_joined p m (replay_after p m) (get_or (measurement_at p m) 0 0)) (get_or (measurement_at p m) 11 0) 0 ≡ get_or r.order pivot 0
+  pub pivot_local : row_pivot (measurement_at p m) < row_width (measurement_at p m)
+  pub pivot_same : get_or (joined_at p m (measurement_at p m)) (row_pivot (measurement_at p m)) 0 ≡ get_or r.order pivot 0
 
 -- a rotation where nothing is active has no join
 unfoldable pub JoinClaim : Plan → ℕ → ActiveOrder → Instruction → Type 0
@@ -252,31 +269,32 @@ JoinClaim p m r RecordDetector = Unit
 JoinClaim p m r Expectation = Unit
 JoinClaim p m r DormantBranch = Unit
 
-abbrev pub is_promotion : Instruction → ℕ
-is_promotion (Rotation width x z phase angle sine cosine) = 0
-is_promotion (Measurement width x z phase pivot) = 0
-is_promotion Promotion = 1
-is_promotion RecordMeasurement = 0
-is_promotion RecordDetector = 0
-is_promotion Expectation = 0
-is_promotion DormantBranch = 0
+-- 1 for a promotion, and 1 for a flag-0 measurement
+abbrev pub promotions_in : Instruction → ℕ
+promotions_in (Rotation width x z phase angle sine cosine) = 0
+promotions_in (Measurement width x z phase pivot) = 0
+promotions_in Promotion = 1
+promotions_in RecordMeasurement = 0
+promotions_in RecordDetector = 0
+promotions_in Expectation = 0
+promotions_in DormantBranch = 0
 
-abbrev pub is_measurement : Instruction → ℕ
-is_measurement (Rotation width x z phase angle sine cosine) = 0
-is_measurement (Measurement width x z phase pivot) = 1
-is_measurement Promotion = 0
-is_measurement RecordMeasurement = 0
-is_measurement RecordDetector = 0
-is_measurement Expectation = 0
-is_measurement DormantBranch = 0
+abbrev pub measurements_in : Instruction → ℕ
+measurements_in (Rotation width x z phase angle sine cosine) = 0
+measurements_in (Measurement width x z phase pivot) = 1
+measurements_in Promotion = 0
+measurements_in RecordMeasurement = 0
+measurements_in RecordDetector = 0
+measurements_in Expectation = 0
+measurements_in DormantBranch = 0
 
 -- 01, section 5, claim by claim, for a program of initial_k = k and the instructions `is`, its plan p, and m of its records
 pub record Connected (k : ℕ) (is : List Instruction) (p : Plan) (m : ℕ) : Type 0 where
   pub rearrangement : Rearranged (replay_members p (replay_after p m)) (active_after (active_start k) (take m is)).order
   pub no_repeats : NoRepeats (replay_members p (replay_after p m))
   pub none_beyond : (i : ℕ) → p.component_count ≤ i → replay_after p m i ≡ []
-  pub all_made : p.component_count ≡ k + total (map is_promotion is)
-  pub count : length (replay_members p (replay_after p m)) + total (map is_measurement (take m is)) ≡ k + total (map is_promotion (take m is))
+  pub all_made : p.component_count ≡ k + total (map promotions_in is)
+  pub count : length (replay_members p (replay_after p m)) + total (map measurements_in (take m is)) ≡ k + total (map promotions_in (take m is))
   pub same_component :
       (a b : ℕ) → Member a (active_after (active_start k) (take m is)).order → Member b (active_after (active_start k) (take m is)).order
       → SameComponent p (replay_after p m) a b ↔ Linked (active_after (active_start k) (take m is)).links a b

@@ -6,13 +6,14 @@ use Rattle.std.specs.Float.{inf, fin, binary64}
 use Rattle.std.specs.Float.Ieee.{of_int, to_bits}
 use Rattle.std.specs.Float.Ieee.Exact.{HasValue}
 use Rattle.kernels.specs.Bits.{dimension}
+use Rattle.records.specs.Pass.{most_coordinates}
 use Rattle.records.specs.declared.Head.{Head}
 use Rattle.records.specs.declared.Instruction.{Instruction}
-use Rattle.plan_spec.specs.Rows.{measurement_words, rotation_words}
+use Rattle.plan_spec.specs.Rows.{measurement_words, rotation_words, step_words, row_width}
 use Rattle.plan_spec.specs.Components.{members_of, size_of}
-use Rattle.plan_spec.specs.WholeWorks.{WholeWorks, too_wide, without_quotient, with_quotient}
+use Rattle.plan_spec.specs.WholeWorks.{widest_counted, WholeWorks, too_wide, without_quotient, with_quotient}
 use Rattle.plan_spec.specs.Walk.{Walk, Written, bits_word, join_of}
-use Rattle.plan_spec.specs.Plan.{Plan, Lengths}
+use Rattle.plan_spec.specs.Plan.{group_words, most_ceiling, Plan, Lengths}
 use Rattle.plan_spec.specs.Connectivity.{Member, active_start, active_after, replay_after, replay_joined}
 
 -- neither a NaN nor negative; 0 is +0
@@ -40,8 +41,8 @@ Agree (with_quotient d c quotient remainder) dense component = IsWhole dense d �
 
 -- "Where the active width, at the start and after each record, never passes 38", by 01's section 5: the roll after m records, read off the instructions alone
 pub record TooWideExactly (initial : ℕ) (is : List Instruction) (works : WholeWorks) : Type 0 where
-  pub passes : works ≡ too_wide → (m : ℕ) × (m ≤ length is) × (38 < length (active_after (active_start initial) (take m is)).order)
-  pub marked : (m : ℕ) → m ≤ length is → 38 < length (active_after (active_start initial) (take m is)).order → works ≡ too_wide
+  pub passes : works ≡ too_wide → (m : ℕ) × (m ≤ length is) × (widest_counted < length (active_after (active_start initial) (take m is)).order)
+  pub marked : (m : ℕ) → m ≤ length is → widest_counted < length (active_after (active_start initial) (take m is)).order → works ≡ too_wide
 
 -- What the Rust guards against and 01 gives no number: a state where any of these fails is never met. An active coordinate has a number that was given out
 -- (the Rust's "invalid active coordinate") and stands in a component ("active coordinate without a component"); a component's members, joined or not, are
@@ -54,20 +55,20 @@ pub record Whole (w : Walk) : Type 0 where
   pub source_live : (x z c : ℕ) → Member c (join_of x z w).sources → (c < length w.components) × (0 < size_of w.components c)
   pub target_given : (x z : ℕ) → 0 < length w.order → Member (join_of x z w).component (join_of x z w).sources
 
--- every row's component had fewer members than the limit when it was joined: word 3 of a row is its local width
+-- every row's component had fewer members than the limit when it was joined
 pub record RowsBelow (limit : ℕ) (o : Written) : Type 0 where
-  pub rotation : (i : ℕ) → i < length o.rotations → get_or (get_or o.rotations i []) 3 0 < limit
-  pub measurement : (i : ℕ) → i < length o.measurements → get_or (get_or o.measurements i []) 3 0 < limit
+  pub rotation : (i : ℕ) → i < length o.rotations → row_width (get_or o.rotations i []) < limit
+  pub measurement : (i : ℕ) → i < length o.measurements → row_width (get_or o.measurements i []) < limit
 
 -- what the outputs of a plan take, with n records: never more than refusal 3 asks for, and a peak that a word holds
 pub record Fits (p : Plan) (n : ℕ) : Type 0 where
-  pub steps : length p.steps ≤ 2 * n
+  pub steps : length p.steps ≤ step_words * n
   pub merges : length p.merges ≤ n + 511
-  pub sizes : length p.sizes ≤ 512
+  pub sizes : length p.sizes ≤ most_coordinates
   pub rotations : length p.rotations ≤ rotation_words * n
   pub promotions : length p.promotions ≤ n
   pub measurements : length p.measurements ≤ measurement_words * n
-  pub groups : length p.groups ≤ 1024
+  pub groups : length p.groups ≤ group_words
   pub peak : p.peak < 2 ^ 63
 
 -- so the outputs fit the lent buffers
@@ -103,7 +104,7 @@ pub record PlanWords (p : Plan) : Type 0 where
 
 -- 02, CR 2: what reading asks of the counts holds of every plan, steps and rows being whole; and so many words are stored at most, of n records and of any
 pub record PlanCounts (n : ℕ) (p : Plan) : Type 0 where
-  pub steps : length p.steps % 2 ≡ 0
+  pub steps : length p.steps % step_words ≡ 0
   pub sizes : length p.sizes ≡ p.component_count
   pub rotations : length p.rotations % rotation_words ≡ 0
   pub measurements : length p.measurements % measurement_words ≡ 0
@@ -130,6 +131,6 @@ under ceiling h = record { initial_k = h.initial_k; max_k = h.max_k; nexpvals = 
 -- what a ceiling asks of a program that has a plan: 24, 1 and 14 do not refuse it
 pub record HoldsPlan (ceiling : ℕ) (h : Head) (p : Plan) : Type 0 where
   pub least : 1 ≤ ceiling
-  pub most : ceiling ≤ 62
+  pub most : ceiling ≤ most_ceiling
   pub max_below : h.max_k < ceiling
   pub sizes_below : (c : ℕ) → get_or p.sizes c 0 < ceiling

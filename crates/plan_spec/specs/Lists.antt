@@ -4,7 +4,7 @@ use Rattle.std.specs.Prelude.{ℕ, zero, suc, ◌+◌, List, [], ◌∷◌, ◌+
 -- a is an entry of the list
 abbrev pub is_in : ℕ → List ℕ → Bool
 is_in a [] = false
-is_in a (b ∷ bs) = (a == b) || is_in a bs
+is_in a (b ∷ bs) = a == b || is_in a bs
 
 -- the two lists share an entry
 abbrev pub meet : List ℕ → List ℕ → Bool
@@ -14,12 +14,14 @@ meet (a ∷ rest) bs = is_in a bs || meet rest bs
 -- the list with every entry a left out
 abbrev pub without : ℕ → List ℕ → List ℕ
 without a [] = []
-without a (b ∷ bs) = let rest = without a bs in (if (a == b) then rest else b ∷ rest)
+without a (b ∷ bs) =
+    let rest = without a bs in
+    if a == b then rest else b ∷ rest
 
 -- the position of the first entry a, and the list's length where there is none
 abbrev pub place_of : ℕ → List ℕ → ℕ
 place_of a [] = zero
-place_of a (b ∷ bs) = if (a == b) then zero else suc (place_of a bs)
+place_of a (b ∷ bs) = if a == b then zero else suc (place_of a bs)
 
 -- the list without its entry at position p
 abbrev pub remove_at : {A : Type 0} → ℕ → List A → List A

@@ -4,10 +4,10 @@ use Rattle.std.specs.Prelude.{ℕ, suc, ◌+◌, ◌-◌, ◌*◌, ◌/◌, ◌%
 use Rattle.std.specs.Float.{fin, binary64}
 use Rattle.std.specs.Float.Ieee.{round, mul, sub, le, of_int}
 use Rattle.kernels.specs.Bits.{dimension}
-use Rattle.records.specs.Record.{instructions_of}
-use Rattle.records.specs.Pass.{Checked, Passed, Refused, record_pass}
+use Rattle.records.specs.Record.{record_words, record_count, instructions_of}
+use Rattle.records.specs.Pass.{most_coordinates, Checked, Passed, Refused, record_pass}
 use Rattle.records.specs.declared.Head.{Head}
-use Rattle.plan_spec.specs.Rows.{measurement_words, rotation_words}
+use Rattle.plan_spec.specs.Rows.{measurement_words, rotation_words, step_words}
 use Rattle.plan_spec.specs.Lists.{concat}
 use Rattle.plan_spec.specs.Components.{allocated_for}
 use Rattle.plan_spec.specs.WholeWorks.{WholeWorks, whole_works_of}
@@ -48,40 +48,49 @@ pub data Result : Type 0 where
   refused_at : (number index : ℕ) → Result
 
 -- "unused words are zero": what a lent buffer of n words holds with these used
-abbrev pub padded : ℕ → List ℕ → List ℕ
+abbrev pub padded : (long : ℕ) → (used : List ℕ) → List ℕ
 padded n ws = ws ++ replicate (n - length ws) 0
 
 -- what the lent buffer of one output holds afterwards: "no plan, all seven outputs zero" after a refusal
-abbrev pub held_after : ℕ → (Plan → List ℕ) → Result → List ℕ
+abbrev pub held_after : (long : ℕ) → (Plan → List ℕ) → Result → List ℕ
 held_after n output (planned p) = padded n (output p)
 held_after n output (refused_at number index) = padded n []
 
 -- ---- section 6
 
--- the float nearest to 1.8, and 1.25
-abbrev pub ratio_f : Float
-ratio_f = round binary64 false 9 5
+-- "at least 4" instructions; the float nearest to 1.8, 8192 and 1.25
+abbrev pub least_quantum : ℕ
+least_quantum = 4
 
-abbrev pub share_f : Float
-share_f = fin false 5 (negsuc 1)
+abbrev pub least_ratio : Float
+least_ratio = round binary64 false 9 5
+
+abbrev pub most_share : Float
+most_share = fin false 5 (negsuc 1)
+
+abbrev pub least_saving : Float
+least_saving = fin false 1 (pos 13)
 
 -- "allocated, rounded to the nearest float with ties to even, <= 1.25·2^max_k"
-unfoldable pub allocation_fits : ℕ → ℕ → Bool
+unfoldable pub allocation_fits : (allocated dense_peak : ℕ) → Bool
 unfolding le of_int mul
-allocation_fits allocated dense_peak = le (of_int binary64 (pos allocated)) (mul binary64 share_f (of_int binary64 (pos dense_peak)))
+allocation_fits allocated dense_peak = le (of_int binary64 (pos allocated)) (mul binary64 most_share (of_int binary64 (pos dense_peak)))
 
 -- "at least 4 rotations (ignored ones count), promotions and flag-0 measurements together; dense >= 1.8·component and dense - component >= 8192, in floats"
-unfoldable pub chosen : ℕ → Float → Float → ℕ → ℕ → Bool
+unfoldable pub chosen : (quantum : ℕ) (dense component : Float) (allocated dense_peak : ℕ) → Bool
 unfolding allocation_fits le mul sub round
 chosen quantum dense component allocated dense_peak =
-    nat_le 4 quantum
-    && (le (mul binary64 ratio_f component) dense
-    && (le (fin false 1 (pos 13)) (sub binary64 dense component)
+    nat_le least_quantum quantum
+    && (le (mul binary64 least_ratio component) dense
+    && (le least_saving (sub binary64 dense component)
     && allocation_fits allocated dense_peak))
 
 -- "With max_k < 8 or nexpvals not 0 planning accepts right after condition 1"
+abbrev pub least_read : ℕ
+least_read = 8
+
 abbrev pub unread : Head → Bool
-unread h = nat_lt h.max_k 8 || not (h.nexpvals == 0)
+unread head = nat_lt head.max_k least_read || not (head.nexpvals == 0)
 
 -- ---- the plan of a finished walk
 
@@ -92,7 +101,7 @@ groups_of [] = []
 groups_of ([] ∷ cs) = groups_of cs
 groups_of ((a ∷ rest) ∷ cs) = suc (length rest) ∷ a ∷ rest ++ groups_of cs
 
-unfoldable pub plan_from : ℕ → ℕ → Walk → Plan
+unfoldable pub plan_from : (initial dense_peak : ℕ) → Walk → Plan
 unfolding allocated_for chosen whole_works_of
 plan_from initial dense_peak w =
     let o = w.written in
@@ -117,63 +126,86 @@ plan_from initial dense_peak w =
 
 -- "unselected, initial_components = initial_k, dense peak 2^max_k, all else zero": the plan of a walk from no coordinates over no records. So, at any initial_k,
 -- it "has both works 0" and is not too wide
-unfoldable pub unread_plan : ℕ → ℕ → Plan
+unfoldable pub unread_plan : (initial dense_peak : ℕ) → Plan
 unfolding plan_from start
 unread_plan initial dense_peak = plan_from initial dense_peak (start 0)
 
 -- ---- "Where planning stops", in order
 
 -- 2: "record words no multiple of 8, or over 8,192"
+abbrev pub most_words : ℕ
+most_words = 8192
+
 abbrev pub words_refused : List ℕ → Bool
-words_refused ws = not (length ws % 8 == 0) || nat_lt 8192 (length ws)
+words_refused words = not (length words % record_words == 0) || nat_lt most_words (length words)
 
 -- 3: "with n records, steps < 2n, merges < n+512, sizes < 512, rotations < 21n, promotions < n, measurements < 19n or groups < 1,024 words"
-abbrev pub buffers_refused : ℕ → Lengths → Bool
-buffers_refused n l =
-    nat_lt l.steps (2 * n) || nat_lt l.merges (n + 512) || nat_lt l.sizes 512 || nat_lt l.rotations (rotation_words * n)
-    || nat_lt l.promotions n || nat_lt l.measurements (measurement_words * n) || nat_lt l.groups 1024
+abbrev pub group_words : ℕ
+group_words = 1024
 
-abbrev pub after_walk : ℕ → ℕ → Walked → Result
+abbrev pub buffers_refused : (records : ℕ) → Lengths → Bool
+buffers_refused n lent =
+    nat_lt lent.steps (step_words * n)
+    || nat_lt lent.merges (n + most_coordinates)
+    || nat_lt lent.sizes most_coordinates
+    || nat_lt lent.rotations (rotation_words * n)
+    || nat_lt lent.promotions n
+    || nat_lt lent.measurements (measurement_words * n)
+    || nat_lt lent.groups group_words
+
+-- 4: "initial_k > 512"
+abbrev pub too_many_coordinates : Head → Bool
+too_many_coordinates head = nat_lt most_coordinates head.initial_k
+
+abbrev pub after_walk : (initial dense_peak : ℕ) → Walked → Result
 after_walk initial dense_peak (finished w) = planned (plan_from initial dense_peak w)
 after_walk initial dense_peak (stopped number index) = refused_at number index
 
 -- "The record pass ends before the walk begins"
-abbrev pub after_pass : ℕ → ℕ → ℕ → List ℕ → Checked → Result
-after_pass limit initial dense_peak ws Passed = after_walk initial dense_peak (walk_from limit 0 (start initial) (instructions_of ws))
-after_pass limit initial dense_peak ws (Refused number index) = refused_at number index
+abbrev pub after_pass : (limit initial dense_peak : ℕ) → (words : List ℕ) → Checked → Result
+after_pass limit initial dense_peak words Passed =
+    after_walk initial dense_peak (walk_from limit 0 (start initial) (instructions_of words))
+after_pass limit initial dense_peak words (Refused number index) = refused_at number index
 
 abbrev pub refuse_all : Bool → ℕ → Result → Result
 refuse_all test number rest = if test then refused_at number 0 else rest
 
 -- 02, CR 4: "The record pass keeps its width of 62": it reads no ceiling
-abbrev pub pass_of : Head → List ℕ → Checked
-pass_of h ws = record_pass h.initial_k ws
+abbrev pub pass_of : Head → (words : List ℕ) → Checked
+pass_of head words = record_pass head.initial_k words
 
-unfoldable pub plan_read : Head → List ℕ → Lengths → ℕ → Result
+unfoldable pub plan_read : Head → (words : List ℕ) → (lent : Lengths) → (dense_peak : ℕ) → Result
 unfolding walk_from start plan_from record_pass instructions_of
-plan_read h ws l dense_peak =
-    if words_refused ws then refused_at 2 0
-    else (if buffers_refused (length ws / 8) l then refused_at 3 0
-    else (if nat_lt 512 h.initial_k then refused_at 4 0
-    else after_pass h.ceiling h.initial_k dense_peak ws (pass_of h ws)))
+plan_read head words lent dense_peak =
+    if words_refused words then refused_at 2 0
+    else if buffers_refused (record_count words) lent then refused_at 3 0
+    else if too_many_coordinates head then refused_at 4 0
+    else after_pass head.ceiling head.initial_k dense_peak words (pass_of head words)
 
 -- "2^max_k"; none from the ceiling on
 abbrev pub max_dimension : Head → Option ℕ
-max_dimension h = dimension h.ceiling h.max_k
+max_dimension head = dimension head.ceiling head.max_k
 
 -- 1: "max_k >= 62"; 02, CR 4: "Condition 1 reads the ceiling where it reads 62"
-abbrev pub for_dense_peak : Head → List ℕ → Lengths → Option ℕ → Result
-for_dense_peak h ws l None = refused_at 1 0
-for_dense_peak h ws l (Some dense_peak) = if unread h then planned (unread_plan h.initial_k dense_peak) else plan_read h ws l dense_peak
+abbrev pub for_dense_peak : Head → (words : List ℕ) → (lent : Lengths) → (dense_peak : Option ℕ) → Result
+for_dense_peak head words lent None = refused_at 1 0
+for_dense_peak head words lent (Some dense_peak) =
+    if unread head then planned (unread_plan head.initial_k dense_peak)
+    else plan_read head words lent dense_peak
 
 -- 24: 02, CR 4: "A ceiling outside 1 to 62"
+abbrev pub most_ceiling : ℕ
+most_ceiling = 62
+
 abbrev pub ceiling_refused : Head → Bool
-ceiling_refused h = nat_lt h.ceiling 1 || nat_lt 62 h.ceiling
+ceiling_refused head = nat_lt head.ceiling 1 || nat_lt most_ceiling head.ceiling
 
 -- What planning gives for a head, the record words and the lengths of the lent buffers. 02, CR 4: "gives 24, before 1". The head's ceiling is where a width has no
 -- dimension any more. It is asked for max_k and for the members of each join, and so for each kernel. Start and promotions ask for none: they make components of
 -- one member alone, and a program that is read has a max_k of at least 8, so a ceiling of at least 9. Live sums and allocation add up components that such a join
 -- or such a start made, so each has its dimension (`Laws.HasDimensions`)
-unfoldable pub plan_of : Head → List ℕ → Lengths → Result
+unfoldable pub plan_of : Head → (words : List ℕ) → (lent : Lengths) → Result
 unfolding plan_read unread_plan dimension
-plan_of h ws l = if ceiling_refused h then refused_at 24 0 else for_dense_peak h ws l (max_dimension h)
+plan_of head words lent =
+    if ceiling_refused head then refused_at 24 0
+    else for_dense_peak head words lent (max_dimension head)

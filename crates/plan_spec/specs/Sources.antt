@@ -4,6 +4,7 @@ use Rattle.std.specs.Prelude.{ℕ, ◌+◌, ◌≤◌, ◌<◌, ◌≡◌, ◌�
 use Rattle.kernels.specs.Bits.{bit_at}
 use Rattle.records.specs.declared.Instruction.{Instruction}
 use Rattle.records.specs.declared.Instruction.TheVariants.{Rotation, Promotion, RecordMeasurement, RecordDetector, Measurement, Expectation, DormantBranch}
+use Rattle.plan_spec.specs.Rows.{rotation_kind, measurement_kind, row_component, merge_offset, merge_count}
 use Rattle.plan_spec.specs.Components.{members_of}
 use Rattle.plan_spec.specs.Walk.{Walk, join_of}
 use Rattle.plan_spec.specs.Plan.{Plan}
@@ -12,7 +13,7 @@ use Rattle.plan_spec.specs.Connectivity.{Member, NoRepeats, active_start, active
 -- ---- the sources of a join
 
 -- "the active positions below k set in x or z"; k, "the active width before an instruction", is the length of the order
-abbrev pub SetBelow : ℕ → ℕ → ℕ → ℕ → Type 0
+abbrev pub SetBelow : (width x z position : ℕ) → Type 0
 SetBelow k x z p = (p < k) × ((bit_at x p ≡ 1) ⊎ (bit_at z p ≡ 1))
 
 -- "Touched: components of the active positions below k set in x or z; if none, the component of the first active coordinate"
@@ -51,18 +52,18 @@ JoinsListed w = (x z : ℕ) → 0 < length w.order → Sources w.order (members_
 -- the row of record m's join: its part lies inside the merge list and is the join's sources, of which the first is the row's component
 pub record Listed (p : Plan) (m kind : ℕ) (row order : List ℕ) (x z : ℕ) : Type 0 where
   pub kind_is : kind_at p m ≡ kind
-  pub inside : get_or row 1 0 + get_or row 2 0 ≤ length p.merges
-  pub component : get_or row 0 0 ≡ get_or (listed_by p row) 0 0
+  pub inside : merge_offset row + merge_count row ≤ length p.merges
+  pub component : row_component row ≡ get_or (listed_by p row) 0 0
   pub sources : Sources order (replay_after p m) x z (listed_by p row)
 
 -- step m names no row that has a part of the merge list
 abbrev pub NoPart : Plan → ℕ → Type 0
-NoPart p m = (kind_at p m ≡ 2 → ⊥) × (kind_at p m ≡ 4 → ⊥)
+NoPart p m = (kind_at p m ≡ rotation_kind → ⊥) × (kind_at p m ≡ measurement_kind → ⊥)
 
 -- record m, with the order before it: a rotation where coordinates are active and a flag-0 measurement join, and no other record does
 unfoldable pub ListedClaim : Plan → ℕ → List ℕ → Instruction → Type 0
-ListedClaim p m order (Rotation width x z phase angle sine cosine) = ((order ≡ []) × NoPart p m) ⊎ Listed p m 2 (rotation_at p m) order x z
-ListedClaim p m order (Measurement width x z phase pivot) = Listed p m 4 (measurement_at p m) order x z
+ListedClaim p m order (Rotation width x z phase angle sine cosine) = ((order ≡ []) × NoPart p m) ⊎ Listed p m rotation_kind (rotation_at p m) order x z
+ListedClaim p m order (Measurement width x z phase pivot) = Listed p m measurement_kind (measurement_at p m) order x z
 ListedClaim p m order Promotion = NoPart p m
 ListedClaim p m order RecordMeasurement = NoPart p m
 ListedClaim p m order RecordDetector = NoPart p m
@@ -70,11 +71,11 @@ ListedClaim p m order Expectation = NoPart p m
 ListedClaim p m order DormantBranch = NoPart p m
 
 -- row i of a kind is that of a record
-abbrev pub RowOf : ℕ → Plan → ℕ → ℕ → Type 0
+abbrev pub RowOf : (records : ℕ) → Plan → (kind i : ℕ) → Type 0
 RowOf records p kind i = (m : ℕ) × (m < records) × (kind_at p m ≡ kind) × (payload_at p m ≡ i)
 
 -- CR 3 of a plan of so many rotation rows and measurement rows: each join's row lists its sources, and each row is that of a join
 pub record SourcesListed (k : ℕ) (is : List Instruction) (p : Plan) (rotations measurements : ℕ) : Type 0 where
   pub joins : (m : ℕ) → m < length is → ListedClaim p m (active_after (active_start k) (take m is)).order (get_or is m DormantBranch)
-  pub rotation : (i : ℕ) → i < rotations → RowOf (length is) p 2 i
-  pub measurement : (i : ℕ) → i < measurements → RowOf (length is) p 4 i
+  pub rotation : (i : ℕ) → i < rotations → RowOf (length is) p rotation_kind i
+  pub measurement : (i : ℕ) → i < measurements → RowOf (length is) p measurement_kind i

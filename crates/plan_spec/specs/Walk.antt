@@ -12,8 +12,9 @@ use Rattle.kernels.specs.declared.active.PrecomputedActivePauliRotationKernel.{P
 use Rattle.kernels.specs.declared.active.PrecomputedActivePauliMeasurementKernel.{PrecomputedActivePauliMeasurementKernel}
 use Rattle.records.specs.declared.Instruction.{Instruction}
 use Rattle.records.specs.declared.Instruction.TheVariants.{Rotation, Promotion, RecordMeasurement, RecordDetector, Measurement, Expectation, DormantBranch}
+use Rattle.plan_spec.specs.Rows.{no_kind, ignored_kind, rotation_kind, promotion_kind, measurement_kind}
 use Rattle.plan_spec.specs.Lists.{is_in, place_of, remove_at, numbers_from}
-use Rattle.plan_spec.specs.Components.{touched, sources_of, gathered, joined, joining_cost, live_dimension, local_mask, two_f}
+use Rattle.plan_spec.specs.Components.{touched, sources_of, gathered, joined, joining_cost, live_dimension, local_mask, float_two}
 use Rattle.plan_spec.specs.WholeWorks.{WholeSums, first_sums, with_works, whole_joining_cost}
 
 -- ---- the state
@@ -38,7 +39,7 @@ pub record Walk : Type 0 where
   pub written : Written
 
 -- "Start: coordinates 0 to initial_k - 1 in order, each alone in the component of its number"
-unfoldable pub start : ℕ → Walk
+unfoldable pub start : (initial_k : ℕ) → Walk
 unfolding live_dimension
 start k =
     let alone = map (λ c. c ∷ []) (numbers_from 0 k) in record {
@@ -65,14 +66,14 @@ abbrev pub pair_words : Complex64 → List ℕ
 pair_words c = bits_word c.re ∷ bits_word c.im ∷ []
 
 -- "component, merge offset, merge count, local width, x and z, even, odd (two each), overlap"
-unfoldable pub row_head : ℕ → ℕ → ℕ → ActivePauliAction → List ℕ
+unfoldable pub row_head : (component offset count : ℕ) → ActivePauliAction → List ℕ
 unfolding to_bits
 row_head component offset count a =
     component ∷ offset ∷ count ∷ a.nqubits ∷ a.xmask ∷ a.zmask
     ∷ (pair_words a.even_phase ++ (pair_words a.odd_phase ++ (flag_word a.xz_overlap_odd ∷ [])))
 
 -- "diagonal, uniform, flip, pair bit, pair count, angle, cosine, sine, coefficient (two)"
-unfoldable pub rotation_row : ℕ → ℕ → ℕ → PrecomputedActivePauliRotationKernel → List ℕ
+unfoldable pub rotation_row : (component offset count : ℕ) → PrecomputedActivePauliRotationKernel → List ℕ
 unfolding row_head
 rotation_row component offset count k =
     row_head component offset count k.action
@@ -80,7 +81,7 @@ rotation_row component offset count k =
     ∷ bits_word k.kernel_angle ∷ bits_word k.cos_kernel_angle ∷ bits_word k.sin_kernel_angle ∷ pair_words k.minus_even_coefficient)
 
 -- "the same first eleven, pivot, diagonal, phase bit, z-without-pivot, out dimension, coefficient (two), deactivated"
-unfoldable pub measurement_row : ℕ → ℕ → ℕ → PrecomputedActivePauliMeasurementKernel → Bool → List ℕ
+unfoldable pub measurement_row : (component offset count : ℕ) → PrecomputedActivePauliMeasurementKernel → (deactivated : Bool) → List ℕ
 unfolding row_head
 measurement_row component offset count k deactivated =
     row_head component offset count k.action
@@ -100,11 +101,15 @@ pub record Join : Type 0 where
   pub cost : ℕ
   pub peak : ℕ
 
-unfoldable pub join_of : ℕ → ℕ → Walk → Join
+-- the target; 0 where nothing is touched
+abbrev pub first_of : List ℕ → ℕ
+first_of sources = get_or sources 0 0
+
+unfoldable pub join_of : (x z : ℕ) → Walk → Join
 unfolding touched sources_of joined joining_cost whole_joining_cost live_dimension
 join_of x z w =
     let sources = sources_of w.components (touched x z w.order w.components) in
-    let component = get_or sources 0 0 in
+    let component = first_of sources in
     let members = gathered w.components sources in
     let components = joined w.components sources in record {
       sources = sources;
@@ -117,7 +122,7 @@ join_of x z w =
       peak = max w.peak (live_dimension components);
     }
 
-abbrev pub local_action : ℕ → ℕ → ℕ → Walk → Join → ActivePauliAction
+abbrev pub local_action : (x z phase : ℕ) → Walk → Join → ActivePauliAction
 local_action x z phase w j =
     action (length j.members) (local_mask x w.order j.members) (local_mask z w.order j.members) phase
 
@@ -134,13 +139,13 @@ is_none None = true
 is_none (Some n) = false
 
 -- 14: "a component of 62"; 02, CR 4: "a component whose size is the ceiling or more"
-abbrev pub too_large : ℕ → Join → Bool
+abbrev pub too_large : (limit : ℕ) → Join → Bool
 too_large limit j = is_none (dimension limit (length j.members))
 
 -- ---- the steps, by kind of instruction
 
 -- "kind (0 None, 1 IgnoredGlobalPhase, 2 Rotation, 3 Promotion, 4 Measurement) and payload"
-abbrev pub with_step : ℕ → ℕ → Written → Written
+abbrev pub with_step : (kind payload : ℕ) → Written → Written
 with_step kind payload o =
     record { steps = o.steps ++ (kind ∷ payload ∷ []); merges = o.merges; rotations = o.rotations; promotions = o.promotions; measurements = o.measurements }
 
@@ -159,11 +164,11 @@ kept_step kind dense more quantum w = record {
 }
 
 unfoldable pub no_step : Walk → Walk
-no_step w = kept_step 0 w.dense_work 0 w.quantum w
+no_step w = kept_step no_kind w.dense_work 0 w.quantum w
 
 -- "At k = 0 it becomes IgnoredGlobalPhase and still adds dense work 1"
 unfoldable pub ignored_step : Walk → Walk
-ignored_step w = kept_step 1 (add binary64 w.dense_work (exp2 0)) 1 (suc w.quantum) w
+ignored_step w = kept_step ignored_kind (add binary64 w.dense_work (exp2 0)) 1 (suc w.quantum) w
 
 -- "Promotion: dense + 2·2^k; a new coordinate and component, both next numbers; component + 34"
 unfoldable pub promotion_step : Walk → Walk
@@ -175,12 +180,12 @@ promotion_step w =
       order = w.order ++ (next ∷ []);
       components = components;
       longest = w.longest ++ (1 ∷ []);
-      dense_work = add binary64 w.dense_work (mul binary64 two_f (exp2 (length w.order)));
+      dense_work = add binary64 w.dense_work (mul binary64 float_two (exp2 (length w.order)));
       component_work = add binary64 w.component_work (fin false 17 (pos 1));
       whole = with_works (2 * 2 ^ length w.order) 34 (w.order ++ (next ∷ [])) w.whole;
       peak = max w.peak (live_dimension components);
       quantum = suc w.quantum;
-      written = with_step 3 (length o.promotions)
+      written = with_step promotion_kind (length o.promotions)
           (record { steps = o.steps; merges = o.merges; rotations = o.rotations; promotions = o.promotions ++ (next ∷ []); measurements = o.measurements });
     }
 
@@ -198,7 +203,7 @@ rotation_step w j k =
       whole = with_works (2 ^ length w.order) (j.cost + (2 ^ length j.members + 32)) w.order w.whole;
       peak = j.peak;
       quantum = suc w.quantum;
-      written = with_step 2 (length o.rotations)
+      written = with_step rotation_kind (length o.rotations)
           (record { steps = o.steps; merges = o.merges ++ j.sources; rotations = o.rotations ++ (row ∷ []); promotions = o.promotions; measurements = o.measurements });
     }
 
@@ -214,40 +219,45 @@ measurement_step w j pivot k =
       order = remove_at pivot w.order;
       components = components;
       longest = j.longest;
-      dense_work = add binary64 w.dense_work (mul binary64 two_f (exp2 (length w.order)));
-      component_work = add binary64 j.work (add binary64 (mul binary64 two_f (exp2 (length j.members))) (fin false 1 (pos 5)));
+      dense_work = add binary64 w.dense_work (mul binary64 float_two (exp2 (length w.order)));
+      component_work = add binary64 j.work (add binary64 (mul binary64 float_two (exp2 (length j.members))) (fin false 1 (pos 5)));
       whole = with_works (2 * 2 ^ length w.order) (j.cost + (2 * 2 ^ length j.members + 32)) (remove_at pivot w.order) w.whole;
       peak = max j.peak (live_dimension components);
       quantum = suc w.quantum;
-      written = with_step 4 (length o.measurements)
+      written = with_step measurement_kind (length o.measurements)
           (record { steps = o.steps; merges = o.merges ++ j.sources; rotations = o.rotations; promotions = o.promotions; measurements = o.measurements ++ (row ∷ []) });
     }
 
+-- how many coordinates are active
+abbrev pub active_width : Walk → ℕ
+active_width w = length w.order
+
 -- 11, or the ignored phase, or 14, or the rotation
-unfoldable pub rotate : ℕ → Walk → ℕ → ℕ → ℕ → ℕ → Float → Float → Float → Answer Walk
+unfoldable pub rotate : (limit : ℕ) → Walk → (width x z phase : ℕ) (angle sine cosine : Float) → Answer Walk
 unfolding join_of rotation_step ignored_step dimension odd_ones highest_bit
 rotate limit w width x z phase angle sine cosine =
     let j = join_of x z w in
-    if not (width == length w.order) then refused 11
-    else (if length w.order == 0 then given (ignored_step w)
-    else (if too_large limit j then refused 14
-    else when_given (rotation limit (local_action x z phase w j) phase angle sine cosine) (λ k. given (rotation_step w j k))))
+    if not (width == active_width w) then refused 11
+    else if active_width w == 0 then given (ignored_step w)
+    else if too_large limit j then refused 14
+    else when_given (rotation limit (local_action x z phase w j) phase angle sine cosine) (λ k. given (rotation_step w j k))
 
 -- 12, 13, 14, then the pivot's 15 to 20, or the measurement
-unfoldable pub measure : ℕ → Walk → ℕ → ℕ → ℕ → ℕ → ℕ → Answer Walk
+unfoldable pub measure : (limit : ℕ) → Walk → (width x z phase pivot : ℕ) → Answer Walk
 unfolding join_of measurement_step dimension odd_ones
 measure limit w width x z phase pivot =
     let j = join_of x z w in
     let coordinate = get_or w.order pivot 0 in
-    if not (width == length w.order) then refused 12
-    else (if length w.order == 0 then refused 13
-    else (if too_large limit j then refused 14
-    else (if not (nat_lt pivot (length w.order)) then refused 15
-    else (if not (is_in coordinate j.members) then refused 16
-    else when_given (measurement limit (local_action x z phase w j) phase (place_of coordinate j.members)) (λ k. given (measurement_step w j pivot k))))))
+    let local_pivot = place_of coordinate j.members in
+    if not (width == active_width w) then refused 12
+    else if active_width w == 0 then refused 13
+    else if too_large limit j then refused 14
+    else if not (nat_lt pivot (active_width w)) then refused 15
+    else if not (is_in coordinate j.members) then refused 16
+    else when_given (measurement limit (local_action x z phase w j) phase local_pivot) (λ k. given (measurement_step w j pivot k))
 
 -- one instruction. "Flag 1: step None, nothing else"
-unfoldable pub step : ℕ → Walk → Instruction → Answer Walk
+unfoldable pub step : (limit : ℕ) → Walk → Instruction → Answer Walk
 unfolding rotate measure promotion_step no_step
 step limit w (Rotation width x z phase angle sine cosine) = rotate limit w width x z phase angle sine cosine
 step limit w Promotion = given (promotion_step w)
@@ -263,11 +273,11 @@ pub data Walked : Type 0 where
   finished : Walk → Walked
   stopped : (number index : ℕ) → Walked
 
-abbrev pub onward : Answer Walk → ℕ → (Walk → Walked) → Walked
+abbrev pub onward : Answer Walk → (index : ℕ) → (Walk → Walked) → Walked
 onward (given w) index f = f w
 onward (refused number) index f = stopped number index
 
-unfoldable pub walk_from : ℕ → ℕ → Walk → List Instruction → Walked
+unfoldable pub walk_from : (limit index : ℕ) → Walk → List Instruction → Walked
 unfolding step
 walk_from limit index w [] = finished w
 walk_from limit index w (i ∷ is) = onward (step limit w i) index (λ v. walk_from limit (suc index) v is)

@@ -13,7 +13,7 @@ abbrev pub first_sums : List ℕ → WholeSums
 first_sums order = record { dense = 0; component = 0; widest = length order }
 
 -- "and after each record": so much work more, and the order that the record leaves
-abbrev pub with_works : ℕ → ℕ → List ℕ → WholeSums → WholeSums
+abbrev pub with_works : (dense component : ℕ) → (order : List ℕ) → WholeSums → WholeSums
 with_works dense component order s = record {
   dense = s.dense + dense;
   component = s.component + component;
@@ -23,7 +23,9 @@ with_works dense component order s = record {
 -- 01: "the sum, from 0, of 2·2^(size so far) after each source but the target"
 abbrev pub whole_cost_from : List (List ℕ) → ℕ → List ℕ → ℕ
 whole_cost_from cs size [] = 0
-whole_cost_from cs size (s ∷ ss) = let grown = size + size_of cs s in 2 * 2 ^ grown + whole_cost_from cs grown ss
+whole_cost_from cs size (s ∷ ss) =
+    let grown = size + size_of cs s in
+    2 * 2 ^ grown + whole_cost_from cs grown ss
 
 unfoldable pub whole_joining_cost : List (List ℕ) → List ℕ → ℕ
 whole_joining_cost cs [] = 0
@@ -35,12 +37,17 @@ pub data WholeWorks : Type 0 where
   without_quotient : (dense : ℕ) → WholeWorks
   with_quotient : (dense component quotient remainder : ℕ) → WholeWorks
 
-abbrev pub quotient_of : ℕ → ℕ → WholeWorks
-quotient_of dense component = if (component == 0) then without_quotient dense else with_quotient dense component (dense / component) (dense % component)
+abbrev pub quotient_of : (dense component : ℕ) → WholeWorks
+quotient_of dense component =
+    if component == 0 then without_quotient dense
+    else with_quotient dense component (dense / component) (dense % component)
 
 -- "Where the active width ... never passes 38"
+abbrev pub widest_counted : ℕ
+widest_counted = 38
+
 unfoldable pub whole_works_of : WholeSums → WholeWorks
-whole_works_of s = if nat_lt 38 s.widest then too_wide else quotient_of s.dense s.component
+whole_works_of s = if nat_lt widest_counted s.widest then too_wide else quotient_of s.dense s.component
 
 -- the mark 0, 1 or 2, dense, component, quotient and remainder, as words: 0 for what a mark does not give
 abbrev pub whole_words : WholeWorks → List ℕ

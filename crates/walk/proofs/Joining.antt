@@ -13,7 +13,7 @@ use lib.Seq.{set-get_or}
 use lib.Pow.{pow_mono}
 use Rattle.kernels.specs.Bits.{bit_at, exp2}
 use Rattle.plan_spec.specs.Lists.{is_in, place_of, concat}
-use Rattle.plan_spec.specs.Components.{members_of, size_of, gathered, joined, two_f, cost_from, joining_cost, live_dimension, local_mask}
+use Rattle.plan_spec.specs.Components.{members_of, size_of, gathered, joined, float_two, cost_from, joining_cost, live_dimension, local_mask}
 use Rattle.plan_spec.specs.WholeWorks.{whole_cost_from, whole_joining_cost}
 use Rattle.plan_spec.specs.Walk.{Walk, Join, join_of}
 use Rattle.plan_spec.specs.Connectivity.{Member, NoRepeats, ActiveOrder, support_of}
@@ -54,8 +54,8 @@ cost_from_lem : (size : List ℕ) (cs : List (List ℕ)) (grown : ℕ) (sum : Fl
 cost_from_lem size cs grown sum [] f = (refl, refl)
 cost_from_lem size cs grown sum (s ∷ ss) f =
     let e = (f s (member_head s ss)).0 in
-    let rest = cost_from_lem size cs (grown + size_of cs s) (add binary64 sum (mul binary64 two_f (exp2 (grown + size_of cs s)))) ss (λ c m. f c (member_tail c s ss m)) in (
-      ap (λ (n : ℕ). cost_in size (grown + n) (add binary64 sum (mul binary64 two_f (exp2 (grown + n)))) ss) e ∙ rest.0,
+    let rest = cost_from_lem size cs (grown + size_of cs s) (add binary64 sum (mul binary64 float_two (exp2 (grown + size_of cs s)))) ss (λ c m. f c (member_tail c s ss m)) in (
+      ap (λ (n : ℕ). cost_in size (grown + n) (add binary64 sum (mul binary64 float_two (exp2 (grown + n)))) ss) e ∙ rest.0,
       ap (λ (n : ℕ). 2 * 2 ^ (grown + n) + whole_cost_in size (grown + n) ss) e ∙ ap (λ (n : ℕ). 2 * 2 ^ (grown + size_of cs s) + n) rest.1,
     )
 

@@ -18,7 +18,7 @@ use Rattle.plan_spec.specs.Lists.{total}
 use Rattle.plan_spec.specs.Components.{live_dimension}
 use Rattle.plan_spec.specs.Walk.{Walk, step, start, walk_from, onward, stopped, no_step, ignored_step, promotion_step, rotation_step, measurement_step}
 use Rattle.plan_spec.specs.Plan.{groups_of}
-use Rattle.plan_spec.specs.Connectivity.{active_start, active_after, is_promotion}
+use Rattle.plan_spec.specs.Connectivity.{active_start, active_after, promotions_in}
 use Rattle.plan_spec.proofs.Steps.{Stepped, ignored, rotated, promoted, measured, recorded, detected, expected, branched, stepped, Run, done, more}
 use Rattle.plan_spec.proofs.Growth.{row_count, start_wide, run_rotations, run_measurements, AllOf}
 use Rattle.plan_spec.proofs.Tracking.{Tracked, start_tracked, run_tracked}
@@ -53,15 +53,15 @@ run_quantum (done w) = omega arith
 run_quantum (more s r) = let e = step_quantum s in let f = run_quantum r in omega arith
 
 -- promotions among the first records are no more than among all
-promotions_most : (i : ℕ) (is : List Instruction) → total (map is_promotion (take i is)) ≤ total (map is_promotion is)
+promotions_most : (i : ℕ) (is : List Instruction) → total (map promotions_in (take i is)) ≤ total (map promotions_in is)
 promotions_most zero is = omega arith
 promotions_most (suc i) [] = omega arith
 promotions_most (suc i) (x ∷ is) = let r = promotions_most i is in omega arith
 
 -- one that is next is not among the first
-promotion_next : (i : ℕ) (is : List Instruction) → i < length is → get_or is i DormantBranch ≡ Promotion → total (map is_promotion (take i is)) < total (map is_promotion is)
+promotion_next : (i : ℕ) (is : List Instruction) → i < length is → get_or is i DormantBranch ≡ Promotion → total (map promotions_in (take i is)) < total (map promotions_in is)
 promotion_next i [] h e = absurd (omega arith)
-promotion_next zero (x ∷ is) h e = let f = ap is_promotion e in omega arith
+promotion_next zero (x ∷ is) h e = let f = ap promotions_in e in omega arith
 promotion_next (suc i) (x ∷ is) h e = let r = promotion_next i is (omega arith) e in omega arith
 
 start_quantum : (k : ℕ) → (start k).quantum ≡ 0

@@ -22,7 +22,7 @@ use Rattle.records.specs.Record.{instructions_of}
 use Rattle.records.specs.declared.Instruction.{Instruction}
 use Rattle.records.specs.declared.Instruction.TheVariants.{Rotation, Promotion, RecordMeasurement, RecordDetector, Measurement, Expectation, DormantBranch}
 use Rattle.plan_spec.specs.Lists.{concat, remove_at}
-use Rattle.plan_spec.specs.Components.{members_of, size_of, amplitudes, joining_cost, live_dimension, local_mask, two_f}
+use Rattle.plan_spec.specs.Components.{members_of, size_of, amplitudes, joining_cost, live_dimension, local_mask, float_two}
 use Rattle.plan_spec.specs.Walk.{Walk, Join, join_of, local_action, when_given, no_step, ignored_step, promotion_step, rotation_step, measurement_step, step, start, walk_from, stopped, rotation_row, measurement_row}
 use Rattle.plan_spec.specs.Connectivity.{NoRepeats, ActiveOrder, active_start, active_after}
 use Rattle.plan_spec.proofs.Counting.{same_or_not, length_remove_at}
@@ -451,8 +451,8 @@ module _ (limit k : ℕ) (ws : List ℕ) (b : Buffers) (ok : Walkable k ws b) (i
                 ahead = went.1;
                 rep = represents_left v removed;
                 sums = subst (λ (a : Tally). Tallied a (measurement_step w j pivot q)) (sym sums) (record {
-                  dense = ap₂ (λ (a : Float) (n : ℕ). add binary64 a (mul binary64 two_f (exp2 n))) at.sums.dense at.rep.width;
-                  work = ap₂ (λ (a : Float) (n : ℕ). add binary64 a (add binary64 (mul binary64 two_f (exp2 n)) (fin false 1 (pos 5)))) work_joined join_size;
+                  dense = ap₂ (λ (a : Float) (n : ℕ). add binary64 a (mul binary64 float_two (exp2 n))) at.sums.dense at.rep.width;
+                  work = ap₂ (λ (a : Float) (n : ℕ). add binary64 a (add binary64 (mul binary64 float_two (exp2 n)) (fin false 1 (pos 5)))) work_joined join_size;
                   whole_dense = ap (λ (n : ℕ). (t.whole_dense + 2 * 2 ^ n) % 2 ^ 64) at.rep.width ∙ kept_sum t.whole_dense w.whole.dense (2 * 2 ^ length w.order) at.sums.whole_dense;
                   whole_work = ap (λ (n : ℕ). ((t.whole_work + join.whole_cost) % 2 ^ 64 + (2 * 2 ^ n + 32)) % 2 ^ 64) join_size ∙ whole_joined (2 * 2 ^ length j.members + 32);
                   widest = let e = no_wider in let h = within in let l = length_remove_at pivot w.order passed.0 in omega arith;
@@ -597,7 +597,7 @@ module _ (limit k : ℕ) (ws : List ℕ) (b : Buffers) (ok : Walkable k ws b) (i
           ahead = went.1;
           rep = represents_promotion s w.order w.components at.rep active_fewer fewer;
           sums = subst (λ (a : Tally). Tallied a (promotion_step w)) (sym sums) (record {
-            dense = ap₂ (λ (a : Float) (n : ℕ). add binary64 a (mul binary64 two_f (exp2 n))) at.sums.dense at.rep.width;
+            dense = ap₂ (λ (a : Float) (n : ℕ). add binary64 a (mul binary64 float_two (exp2 n))) at.sums.dense at.rep.width;
             work = ap (λ (a : Float). add binary64 a (fin false 17 (pos 1))) at.sums.work;
             whole_dense = ap (λ (n : ℕ). (t.whole_dense + 2 * 2 ^ n) % 2 ^ 64) at.rep.width ∙ kept_sum t.whole_dense w.whole.dense (2 * 2 ^ length w.order) at.sums.whole_dense;
             whole_work = kept_sum t.whole_work w.whole.component 34 at.sums.whole_work;

@@ -4,7 +4,7 @@ use Rattle.std.proofs.Common.{◌≡◌, ℕ, ◌+◌, ◌-◌, ◌*◌, ◌%◌
 use native.Mathlib.Nat.{mod-add-mod, add-mod-mod, mul-mod_left}
 use lib.Ieee.{Float, binary64, fin, add, mul}
 use Rattle.kernels.specs.Bits.{exp2}
-use Rattle.plan_spec.specs.Components.{two_f}
+use Rattle.plan_spec.specs.Components.{float_two}
 use Rattle.work_sums.specs.Tally.{sizes_of, powers, cost_in, whole_cost_in, power_left, joining_of}
 use Rattle.work_sums.specs.declared.Joining.{Joining}
 use Rattle.masks.proofs.Arrays.{rest_at}
@@ -48,7 +48,7 @@ module _ (size sources : List ℕ) (i : ℕ) (inside : i < length sources) where
   pub cost_next : (grown more : ℕ) (cost power : Float)
       → more ≡ get_or size (get_or sources i 0) 0
       → power ≡ exp2 (grown + more)
-      → cost_in size (grown + more) (add binary64 cost (mul binary64 two_f power)) (drop (i + 1) sources)
+      → cost_in size (grown + more) (add binary64 cost (mul binary64 float_two power)) (drop (i + 1) sources)
       ≡ cost_in size grown cost (drop i sources)
   cost_next grown more cost power e p = rw (p, e) (sym (ap (λ (l : List ℕ). cost_in size grown cost l) (rest_at sources i inside)))
 

@@ -4,7 +4,7 @@ use Rattle.std.specs.Float.{fin, binary64}
 use Rattle.std.specs.Float.Ieee.{add, mul}
 use Rattle.kernels.specs.Bits.{exp2}
 use Rattle.plan_spec.specs.Lists.{total}
-use Rattle.plan_spec.specs.Components.{two_f}
+use Rattle.plan_spec.specs.Components.{float_two}
 use Rattle.plan_spec.specs.WholeWorks.{WholeWorks, too_wide, without_quotient, with_quotient}
 use Rattle.work_sums.specs.declared.Joining.{Joining}
 use Rattle.work_sums.specs.declared.Tally.{Tally}
@@ -22,7 +22,7 @@ powers size ss = total (map (λ s. 2 ^ slice_index size s) ss)
 abbrev pub cost_in : List ℕ → ℕ → Float → List ℕ → Float
 cost_in size grown sum [] = sum
 cost_in size grown sum (s ∷ ss) =
-    let next = grown + slice_index_or size s 0 in cost_in size next (add binary64 sum (mul binary64 two_f (exp2 next))) ss
+    let next = grown + slice_index_or size s 0 in cost_in size next (add binary64 sum (mul binary64 float_two (exp2 next))) ss
 
 -- the same sum as a whole number
 abbrev pub whole_cost_in : List ℕ → ℕ → List ℕ → ℕ
@@ -131,7 +131,7 @@ rotated_tally t j k =
 -- "Promotion: dense + 2·2^k; ... component + 34"
 unfoldable pub promoted_tally : Tally → ℕ → Tally
 promoted_tally t k = record {
-  dense = add binary64 t.dense (mul binary64 two_f (exp2 k));
+  dense = add binary64 t.dense (mul binary64 float_two (exp2 k));
   work = add binary64 t.work (fin false 17 (pos 1));
   whole_dense = (t.whole_dense + 2 * 2 ^ k) % 2 ^ 64;
   whole_work = (t.whole_work + 34) % 2 ^ 64;
@@ -150,8 +150,8 @@ unfoldable pub measured_tally : Tally → Joining → ℕ → Tally
 unfolding joined_tally
 measured_tally t j k =
     let next = joined_tally t j in record {
-      dense = add binary64 next.dense (mul binary64 two_f (exp2 k));
-      work = add binary64 next.work (add binary64 (mul binary64 two_f (exp2 j.size)) (fin false 1 (pos 5)));
+      dense = add binary64 next.dense (mul binary64 float_two (exp2 k));
+      work = add binary64 next.work (add binary64 (mul binary64 float_two (exp2 j.size)) (fin false 1 (pos 5)));
       whole_dense = (next.whole_dense + 2 * 2 ^ k) % 2 ^ 64;
       whole_work = (next.whole_work + (2 * 2 ^ j.size + 32)) % 2 ^ 64;
       widest = next.widest;

@@ -2,7 +2,7 @@
 use Rattle.std.proofs.Common.{◌≡◌, ℕ, ◌<◌, ◌≤◌, true, false, pos, ◌∙◌, ap₂, le-leb}
 use borrow.Author.Tests.{lt-leb}
 use lib.Ieee.{Float, fin, binary64, mul, sub, le, of_int, of_bits, round}
-use Rattle.plan_spec.specs.Plan.{ratio_f, share_f, chosen}
+use Rattle.plan_spec.specs.Plan.{least_ratio, most_share, chosen}
 use Rattle.lent.proofs.choose.Goals as goal
 
 module _ (quantum : ℕ) (dense component : Float) (allocated peak : ℕ) where
@@ -13,11 +13,11 @@ module _ (quantum : ℕ) (dense component : Float) (allocated peak : ℕ) where
 
   module _ (enough : 4 ≤ quantum) where
     -- the ratio is too small
-    close : le (mul binary64 ratio_f component) dense ≡ false → false ≡ chosen quantum dense component allocated peak
+    close : le (mul binary64 least_ratio component) dense ≡ false → false ≡ chosen quantum dense component allocated peak
     unfolding chosen
     close e = simp (le-leb 4 quantum enough, e)
 
-    module _ (far : le (mul binary64 ratio_f component) dense ≡ true) where
+    module _ (far : le (mul binary64 least_ratio component) dense ≡ true) where
       -- the difference is too small
       cheap : le (fin false 1 (pos 13)) (sub binary64 dense component) ≡ false → false ≡ chosen quantum dense component allocated peak
       unfolding chosen
@@ -25,7 +25,7 @@ module _ (quantum : ℕ) (dense component : Float) (allocated peak : ℕ) where
 
       -- the last test decides
       last : le (fin false 1 (pos 13)) (sub binary64 dense component) ≡ true
-          → le (of_int binary64 (pos allocated)) (mul binary64 share_f (of_int binary64 (pos peak))) ≡ chosen quantum dense component allocated peak
+          → le (of_int binary64 (pos allocated)) (mul binary64 most_share (of_int binary64 (pos peak))) ≡ chosen quantum dense component allocated peak
       unfolding chosen
       last e = simp (le-leb 4 quantum enough, far, e)
 
@@ -48,5 +48,5 @@ pub returns : goal.returns
 unfolding of_bits round
 returns c =
     let a = c.args in
-    ap₂ (λ (x y : Float). le x (mul binary64 share_f y)) c.nearest_u64_to_f64.ensures c.nearest_u64_to_f64-2.ensures
+    ap₂ (λ (x y : Float). le x (mul binary64 most_share y)) c.nearest_u64_to_f64.ensures c.nearest_u64_to_f64-2.ensures
     ∙ last a.quantum a.dense a.component a.allocated a.dense_peak c.if-quantum-lt4.false c.if-not-component-dense.false c.if-not-dense-component.false
