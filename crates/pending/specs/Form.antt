@@ -5,7 +5,7 @@ use Rattle.std.specs.List.{list_all}
 use Rattle.std.specs.Float.{fin, binary64}
 use Rattle.std.specs.Float.Ieee.{of_bits, le}
 use Rattle.records.specs.Pass.{within}
-use Rattle.pending.specs.Operation.{Operation, operations_of, word, words_from, kind}
+use Rattle.pending.specs.Operation.{operation_words, operation_count, Operation, operations_of, word, words_from, kind}
 
 -- "at most 1,024 operations"
 abbrev pub most_operations : ℕ
@@ -14,6 +14,13 @@ most_operations = 1024
 -- "and 1,024 preserved prefixes"
 abbrev pub most_prefixes : ℕ
 most_prefixes = 1024
+
+-- "strings have one width of 1 to 64", "eight conditions"
+abbrev pub most_width : ℕ
+most_width = 64
+
+abbrev pub most_conditions : ℕ
+most_conditions = 8
 
 -- the Rust's fields of 32 bits hold no more
 abbrev pub most_number : ℕ
@@ -40,24 +47,38 @@ string_fits width x z phase = mask_fits width x && (mask_fits width z && nat_le 
 
 -- a condition that is used is "positive, strictly ascending", and one that is not is 0; `left` says how many are still used, from this one on
 abbrev pub condition_fits : (left last condition : ℕ) → Bool
-condition_fits left last c = if (left == 0) then (c == 0) else nat_lt last c && nat_le c most_number
+condition_fits left last c =
+    if left == 0 then c == 0
+    else nat_lt last c && nat_le c most_number
 
 -- all conditions, the first `left` of them used and above the last one
 abbrev pub conditions_fit : (left last : ℕ) → List ℕ → Bool
 conditions_fit left last [] = true
 conditions_fit left last (c ∷ cs) = condition_fits left last c && conditions_fit (left - 1) c cs
 
+-- the words of a sign
+abbrev pub sign_constant : List ℕ → ℕ
+sign_constant s = get_or s 0 0
+
+abbrev pub sign_count : List ℕ → ℕ
+sign_count s = get_or s 1 0
+
+abbrev pub sign_conditions : List ℕ → List ℕ
+sign_conditions s = drop 2 s
+
 -- "sign: constant 0 or 1, count, eight conditions, unused ones 0"
 unfoldable pub sign_fits : List ℕ → Bool
-sign_fits s = nat_le (get_or s 0 0) 1 && (nat_le (get_or s 1 0) 8 && conditions_fit (get_or s 1 0) 0 (drop 2 s))
+sign_fits s =
+    nat_le (sign_constant s) 1
+    && (nat_le (sign_count s) most_conditions && conditions_fit (sign_count s) 0 (sign_conditions s))
 
 -- an Option's flag and value
 unfoldable pub option_fits : (flag value : ℕ) → Bool
-option_fits flag value = nat_le flag 1 && (nat_le value most_number && ((flag == 1) || (value == 0)))
+option_fits flag value = nat_le flag 1 && (nat_le value most_number && (flag == 1 || value == 0))
 
 -- "then zeros"
 abbrev pub all_zero : List ℕ → Bool
-all_zero ws = list_all (λ w. (w == 0)) ws
+all_zero ws = list_all (λ w. w == 0) ws
 
 unfoldable pub rotation_fits : (width : ℕ) → Operation → Bool
 rotation_fits width o =
@@ -79,12 +100,19 @@ record_fits o =
 unfoldable pub operation_fits : (width : ℕ) → Operation → Bool
 operation_fits width o = get_or (rotation_fits width o ∷ measurement_fits width o ∷ record_fits o ∷ []) (kind o) false
 
+-- whole operations alone
+abbrev pub are_whole : List ℕ → Bool
+are_whole words = length words % operation_words == 0
+
 -- a whole call: "all strings have one width of 1 to 64"
 unfoldable pub form_fits : (width : ℕ) (words prefixes : List ℕ) (optimized_len map_len : ℕ) → Bool
 unfolding operations_of operation_fits rotation_fits measurement_fits record_fits string_fits sign_fits option_fits within of_bits le
 form_fits width words prefixes optimized_len map_len =
-    nat_le 1 width && (nat_le width 64
-    && (((length words % 32) == 0) && (nat_le (length words) (32 * most_operations)
+    nat_le 1 width
+    && (nat_le width most_width
+    && (are_whole words
+    && (nat_le (length words) (operation_words * most_operations)
     && (nat_le (length prefixes) most_prefixes
-    && (nat_le (length words) optimized_len && (nat_lt (length words / 32) map_len
+    && (nat_le (length words) optimized_len
+    && (nat_lt (operation_count words) map_len
     && list_all (operation_fits width) (operations_of words)))))))

@@ -12,9 +12,16 @@ use Rattle.std.specs.Simd.{first_chunks}
 abbrev pub Operation : Type 0
 Operation = List ℕ
 
+-- "An operation is 32 words"
+abbrev pub operation_words : ℕ
+operation_words = 32
+
+abbrev pub operation_count : List ℕ → ℕ
+operation_count words = length words / operation_words
+
 -- the whole operations in a list's words, in order
 unfoldable pub operations_of : List ℕ → List Operation
-operations_of words = first_chunks 32 (length words / 32) words
+operations_of words = first_chunks operation_words (operation_count words) words
 
 -- word j of an operation, and 0 where there is none
 abbrev pub word : Operation → ℕ → ℕ
@@ -30,10 +37,10 @@ abbrev pub kind : Operation → ℕ
 kind o = word o 0
 
 abbrev pub is_rotation : Operation → Bool
-is_rotation o = (kind o == 0)
+is_rotation o = kind o == 0
 
 abbrev pub is_measurement : Operation → Bool
-is_measurement o = (kind o == 1)
+is_measurement o = kind o == 1
 
 -- "exp_val may be 0, so 0 alone cannot mean none": its flag is word 18
 abbrev pub is_expectation : Operation → Bool
@@ -58,13 +65,13 @@ z_of o = word o (suc (string_at o))
 -- two strings commute: the overlaps of x with z and of z with x are even in number, taken together
 unfoldable pub commute : (x z x' z' : ℕ) → Bool
 unfolding ones_in
-commute x z x' z' = (((ones_in 64 (bit_and x z') + ones_in 64 (bit_and z x')) % 2) == 0)
+commute x z x' z' = (ones_in 64 (bit_and x z') + ones_in 64 (bit_and z x')) % 2 == 0
 
 abbrev pub strings_commute : Operation → Operation → Bool
 strings_commute a b = commute (x_of a) (z_of a) (x_of b) (z_of b)
 
 abbrev pub same_string : Operation → Operation → Bool
-same_string a b = (x_of a == (x_of b)) && (z_of a == (z_of b))
+same_string a b = x_of a == x_of b && z_of a == z_of b
 
 -- ---- a rotation's fields
 
@@ -92,7 +99,7 @@ coefficient o = (phase_of o + 3 * y_count o) % 4
 
 -- "a non-Hermitian rotation": that is odd, so that the string's coefficient is not real
 abbrev pub is_hermitian : Operation → Bool
-is_hermitian o = ((coefficient o % 2) == 0)
+is_hermitian o = coefficient o % 2 == 0
 
 -- the sign's constant with the string's own sign in it, which is minus where the coefficient is 2
 abbrev pub whole_sign : Operation → ℕ
