@@ -6,7 +6,7 @@ use borrow.Author.Tests.{eqb-true, leb-true, ltb-true}
 use mathlib.Core.Path.{◌∙◌}
 use Rattle.pending.specs.Operation.{operations_of, is_expectation}
 use Rattle.pending.specs.Form.{form_fits}
-use Rattle.optimizer_spec.specs.Optimizing.{Outcome, optimized, refuse, refuse_at, as_it_is, in_segments, is_odd_rotation, outcome_of}
+use Rattle.optimizer_spec.specs.Optimizing.{Outcome, optimized, refused, refuse_at, as_it_is, in_segments, is_odd_rotation, outcome_of}
 use Rattle.optimizer.specs.declared.checks.Verdict.{Verdict}
 use Rattle.optimizer.proofs.Laws.{both_front, both_behind}
 use Rattle.optimizer.specs.Answer.{PrefixesInside, Sound}
@@ -15,9 +15,9 @@ use Rattle.optimizer.specs.Answer.{PrefixesInside, Sound}
 abbrev pub decided : (words prefixes : List ℕ) → (form expectation beyond : Bool) → (odd : Option ℕ) → Outcome
 decided words prefixes form expectation beyond odd =
     let os = operations_of words in
-    refuse (not form) 26 0
+    cond (not form) (refused 26 0)
     (cond expectation (optimized (as_it_is os))
-    (refuse beyond 27 0
+    (cond beyond (refused 27 0)
     (refuse_at odd 28
     (optimized (in_segments os prefixes)))))
 

@@ -37,11 +37,12 @@ unfoldable pub boundary : (p out : ℕ) (ends : List ℕ) → List Segment → �
 boundary p out [] ss = no_boundary
 boundary p out (e ∷ es) [] = no_boundary
 boundary p out (e ∷ es) (s ∷ ss) =
-    let after = out + length s.operations in (if (p == e) then after else boundary p after es ss)
+    let after = out + length s.operations in
+    if p == e then after else boundary p after es ss
 
 -- word p of the map
 abbrev pub mapped : (ends : List ℕ) → List Segment → ℕ → ℕ
-mapped ends ss p = if (p == 0) then 0 else boundary p 0 ends ss
+mapped ends ss p = if p == 0 then 0 else boundary p 0 ends ss
 
 -- ---- the answer
 
@@ -54,14 +55,14 @@ pub data Outcome : Type 0 where
   optimized : Optimized → Outcome
   refused : (number index : ℕ) → Outcome
 
--- a refusal where the test holds, and else the rest
-abbrev pub refuse : Bool → (number index : ℕ) → Outcome → Outcome
-refuse test number index rest = if test then refused number index else rest
-
 -- "28": where the first operation stands that is a non-Hermitian rotation
 abbrev pub refuse_at : Option ℕ → (number : ℕ) → Outcome → Outcome
 refuse_at None number rest = rest
 refuse_at (Some index) number rest = refused number index
+
+-- "a prefix beyond the list"
+abbrev pub is_beyond : List Operation → (prefix : ℕ) → Bool
+is_beyond os prefix = nat_lt (length os) prefix
 
 abbrev pub is_odd_rotation : Operation → Bool
 is_odd_rotation o = is_rotation o && not (is_hermitian o)
@@ -69,7 +70,8 @@ is_odd_rotation o = is_rotation o && not (is_hermitian o)
 -- "the shortcut for expectation values": the list as it is, the map 0, 1 .. n
 abbrev pub as_it_is : List Operation → Optimized
 as_it_is os =
-    let n = length os in record { operations = os; map = range_with_len 0 (suc n); counts = n ∷ n ∷ 0 ∷ 0 ∷ 0 ∷ [] }
+    let n = length os in
+    record { operations = os; map = range_with_len 0 (suc n); counts = n ∷ n ∷ 0 ∷ 0 ∷ 0 ∷ [] }
 
 -- the operations of all segments, in order
 abbrev pub operations_in : List Segment → List Placed
@@ -99,7 +101,7 @@ unfoldable pub outcome_of : (width : ℕ) (words prefixes : List ℕ) (optimized
 unfolding operations_of form_fits of_bits in_segments ends_of segments boundary segment_of carry meeting can_fuse cancels fused passed reach commute y_count add mul eq to_bits
 outcome_of width words prefixes optimized_len map_len =
     let os = operations_of words in
-    refuse (not (form_fits width words prefixes optimized_len map_len)) 26 0
-    (if list_any is_expectation os then optimized (as_it_is os) else refuse (list_any (nat_lt (length os)) prefixes) 27 0
-    (refuse_at (position_from is_odd_rotation 0 os) 28
-    (optimized (in_segments os prefixes))))
+    if not (form_fits width words prefixes optimized_len map_len) then refused 26 0
+    else if list_any is_expectation os then optimized (as_it_is os)
+    else if list_any (is_beyond os) prefixes then refused 27 0
+    else refuse_at (position_from is_odd_rotation 0 os) 28 (optimized (in_segments os prefixes))

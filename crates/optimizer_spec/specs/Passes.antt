@@ -23,7 +23,7 @@ unfoldable pub same_words : List ℕ → List ℕ → Bool
 same_words [] [] = true
 same_words [] (w ∷ ws) = false
 same_words (v ∷ vs) [] = false
-same_words (v ∷ vs) (w ∷ ws) = (v == w) && same_words vs ws
+same_words (v ∷ vs) (w ∷ ws) = v == w && same_words vs ws
 
 -- `try_fuse_rotations`: rotations about one string whose signs have the same conditions
 unfoldable pub can_fuse : (earlier later : Operation) → Bool
@@ -32,7 +32,7 @@ can_fuse a b = is_rotation b && (same_string a b && same_words (conditions_of a)
 
 -- 1, and -1 where the signs are opposite
 unfoldable pub direction : (earlier later : Operation) → Float
-direction a b = if (whole_sign a == (whole_sign b)) then fin false 1 (pos 0) else fin true 1 (pos 0)
+direction a b = if whole_sign a == whole_sign b then fin false 1 (pos 0) else fin true 1 (pos 0)
 
 -- the later one's angle and the earlier one's in its direction: one product and one sum, both rounded
 unfoldable pub fused_angle : (earlier later : Operation) → Float
@@ -64,13 +64,16 @@ behind b (meets later cancelled rest) = meets later cancelled (b ∷ rest)
 -- the pair's place is the later one's; a cancelled pair leaves nothing
 unfoldable pub meeting : (earlier : Operation) (later : Placed) → List Placed → Carried
 meeting a b rest =
-    if cancels a b.operation then meets b.place true rest else meets b.place false (placed b.place (fused a b.operation) ∷ rest)
+    if cancels a b.operation then meets b.place true rest
+    else meets b.place false (placed b.place (fused a b.operation) ∷ rest)
 
 -- to the first operation that cannot be crossed, or the first that it fuses with
 unfoldable pub carry : (rotation : Operation) → List Placed → Carried
 carry a [] = stays
 carry a (b ∷ rest) =
-    if can_cross a b.operation then (if can_fuse a b.operation then meeting a b rest else behind b (carry a rest)) else stays
+    if can_cross a b.operation
+    then (if can_fuse a b.operation then meeting a b rest else behind b (carry a rest))
+    else stays
 
 -- the places of two rotations that were fused, and whether they cancelled
 pub record Pair : Type 0 where
@@ -99,7 +102,8 @@ unfoldable pub fuse : (steps : ℕ) → List Placed → Fused
 fuse zero os = record { left = []; pairs = [] }
 fuse (suc n) [] = record { left = []; pairs = [] }
 fuse (suc n) (o ∷ rest) =
-    if is_rotation o.operation then carried (fuse n) o rest (carry o.operation rest) else keeping o (fuse n rest)
+    if is_rotation o.operation then carried (fuse n) o rest (carry o.operation rest)
+    else keeping o (fuse n rest)
 
 -- ---- `move_measurements_earlier`
 
@@ -115,7 +119,9 @@ further false false (suc n) = suc (suc n)
 unfoldable pub reach : (slack : Bool) (measurement : Operation) → List Placed → ℕ
 reach slack m [] = 0
 reach slack m (r ∷ rs) =
-    if is_rotation r.operation && strings_commute m r.operation then further slack (same_string m r.operation) (reach slack m rs) else 0
+    if is_rotation r.operation && strings_commute m r.operation
+    then further slack (same_string m r.operation) (reach slack m rs)
+    else 0
 
 unfoldable pub passed : (slack : Bool) → Operation → List Placed → ℕ
 passed slack o before = if is_measurement o then reach slack o before else 0
@@ -132,7 +138,8 @@ swapping n m = record { order = m.order; swaps = n + m.swaps }
 unfoldable pub move : (slack : Bool) (before : List Placed) → List Placed → Moved
 move slack before [] = record { order = reverse before; swaps = 0 }
 move slack before (o ∷ rest) =
-    let n = passed slack o.operation before in swapping n (move slack (take n before ++ o ∷ drop n before) rest)
+    let n = passed slack o.operation before in
+    swapping n (move slack (take n before ++ o ∷ drop n before) rest)
 
 -- ---- `optimize_segment`
 
