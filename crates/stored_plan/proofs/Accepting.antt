@@ -15,8 +15,12 @@ use Rattle.plan_buffers.specs.Stored.{outputs_short}
 use Rattle.file_words.specs.Words.{word_at, words_at}
 use Rattle.file_words.proofs.Bytes.{length_words}
 use Rattle.stored_plan.specs.Stored.{Kept}
-use Rattle.stored_plan.specs.Reading.{Read, restored, refused, refuse, trailer_at, trailer_word, file_refused, kept_in, touch, counts_of, odd_counts, counts_refused, read_file}
+use Rattle.stored_plan.specs.Reading.{Read, restored, refused, trailer_at, trailer_word, file_refused, kept_in, touch, counts_of, odd_counts, counts_refused, read_file}
 use Rattle.stored_plan.specs.Loading.{number_of, trailer_in, counts_in}
+
+-- a refusal where the test holds, and else the rest
+abbrev pub refuse : Bool → ℕ → Read → Read
+refuse test number rest = cond test (refused number) rest
 
 -- ---- 21
 

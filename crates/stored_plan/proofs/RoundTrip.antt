@@ -19,10 +19,10 @@ use Rattle.file_words.specs.Laws.{Bytes}
 use Rattle.file_words.proofs.Bytes.{length_bytes, length_words, words_are}
 use Rattle.file_words.proofs.Back.{word_back, words_back, file_back}
 use Rattle.stored_plan.specs.Stored.{Kept, sections_of, pointers_from, trailer_of, words_of, bytes_of}
-use Rattle.stored_plan.specs.Reading.{restored, refuse, trailer_at, trailer_word, file_refused, kept_in, touch, places_refused, counts_refused, read_file}
+use Rattle.stored_plan.specs.Reading.{restored, trailer_at, trailer_word, file_refused, kept_in, touch, places_refused, counts_refused, read_file}
 use Rattle.stored_plan.specs.Loading.{number_of}
 use Rattle.stored_plan.proofs.Touching.{touch_next}
-use Rattle.stored_plan.proofs.Accepting.{trailer_fits, accepted}
+use Rattle.stored_plan.proofs.Accepting.{refuse, trailer_fits, accepted}
 
 -- ---- sections by their starts and counts
 

@@ -4,7 +4,7 @@ use Rattle.plan_spec.specs.Lists.{numbers_from}
 use Rattle.plan_spec.specs.Plan.{padded}
 use Rattle.plan_buffers.specs.declared.WordCounts.{WordCounts}
 use Rattle.plan_buffers.specs.Stored.{Outputs, lengths_of}
-use Rattle.stored_plan.specs.Stored.{Kept}
+use Rattle.stored_plan.specs.Stored.{trailer_words, Kept}
 use Rattle.stored_plan.specs.Reading.{Read, restored, refused, trailer_word, counts_of, read_file}
 use Rattle.stored_plan.specs.declared.ScalarWords.{ScalarWords}
 use Rattle.refusals.specs.Numbers as Reasons
@@ -59,15 +59,19 @@ number_of (refused number) = number
 
 -- the sixteen words of a file's trailer
 abbrev pub trailer_in : List ℕ → List ℕ
-trailer_in file = map (trailer_word file) (numbers_from 0 16)
+trailer_in file = map (trailer_word file) (numbers_from 0 trailer_words)
+
+-- section s's count: the trailer has a start and a count of each
+abbrev pub count_of : (trailer : List ℕ) → (s : ℕ) → ℕ
+count_of trailer s = get_or trailer (2 * s + 1) 0
 
 -- the six counts in a trailer
 abbrev pub counts_in : List ℕ → WordCounts
 counts_in trailer = record {
-  steps = get_or trailer 1 0;
-  merges = get_or trailer 3 0;
-  sizes = get_or trailer 5 0;
-  rotations = get_or trailer 7 0;
-  promotions = get_or trailer 9 0;
-  measurements = get_or trailer 11 0;
+  steps = count_of trailer 0;
+  merges = count_of trailer 1;
+  sizes = count_of trailer 2;
+  rotations = count_of trailer 3;
+  promotions = count_of trailer 4;
+  measurements = count_of trailer 5;
 }

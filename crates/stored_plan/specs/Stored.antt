@@ -42,9 +42,16 @@ abbrev pub pointers_from : ℕ → List (List ℕ) → List ℕ
 pointers_from at [] = []
 pointers_from at (s ∷ ss) = at ∷ length s ∷ pointers_from (at + length s) ss
 
+-- "A trailer of sixteen words", "version 1"
+abbrev pub trailer_words : ℕ
+trailer_words = 16
+
+abbrev pub file_version : ℕ
+file_version = 1
+
 -- "A trailer of sixteen words at the end points back: ..., the file's length in bytes, version 1"
 abbrev pub trailer_of : List (List ℕ) → List ℕ
-trailer_of ss = pointers_from 0 ss ++ (8 * (length (concat ss) + 16) ∷ 1 ∷ [])
+trailer_of ss = pointers_from 0 ss ++ (8 * (length (concat ss) + trailer_words) ∷ file_version ∷ [])
 
 -- the words of a file: "Sections touch, in that order, from word 0 to the trailer"
 abbrev pub words_of : Kept → List ℕ
