@@ -5,7 +5,7 @@ use Rattle.std.specs.List.{list_all}
 use Rattle.std.specs.Float.{fin, binary64}
 use Rattle.std.specs.Float.Ieee.{of_bits, le}
 use Rattle.records.specs.Pass.{within}
-use Rattle.pending.specs.Operation.{operation_words, operation_count, Operation, operations_of, word, words_from, kind}
+use Rattle.pending.specs.Operation.{operation_words, operation_count, Operation, operations_of, word, words_from, kind, rotation_angle, rotation_x, rotation_z, rotation_phase, rotation_sign, behind_rotation, measurement_x, measurement_z, measurement_phase, measurement_sign, record_flag, record_value, condition_flag, condition_value, expectation_flag, expectation_value, behind_measurement, classical_outcome, classical_record_flag, classical_record_value, classical_condition_flag, classical_condition_value, behind_classical}
 
 -- "at most 1,024 operations"
 abbrev pub most_operations : ℕ
@@ -82,19 +82,26 @@ all_zero ws = list_all (λ w. w == 0) ws
 
 unfoldable pub rotation_fits : (width : ℕ) → Operation → Bool
 rotation_fits width o =
-    angle_fits (word o 1) && (string_fits width (word o 2) (word o 3) (word o 4) && (sign_fits (words_from o 5 10) && all_zero (drop 15 o)))
+    angle_fits (rotation_angle o)
+    && (string_fits width (rotation_x o) (rotation_z o) (rotation_phase o)
+    && (sign_fits (rotation_sign o)
+    && all_zero (behind_rotation o)))
 
 unfoldable pub measurement_fits : (width : ℕ) → Operation → Bool
 measurement_fits width o =
-    string_fits width (word o 1) (word o 2) (word o 3)
-    && (sign_fits (words_from o 4 10)
-    && (option_fits (word o 14) (word o 15)
-    && (option_fits (word o 16) (word o 17) && (option_fits (word o 18) (word o 19) && all_zero (drop 20 o)))))
+    string_fits width (measurement_x o) (measurement_z o) (measurement_phase o)
+    && (sign_fits (measurement_sign o)
+    && (option_fits (record_flag o) (record_value o)
+    && (option_fits (condition_flag o) (condition_value o)
+    && (option_fits (expectation_flag o) (expectation_value o)
+    && all_zero (behind_measurement o)))))
 
 unfoldable pub record_fits : Operation → Bool
 record_fits o =
-    sign_fits (words_from o 1 10)
-    && (option_fits (word o 11) (word o 12) && (option_fits (word o 13) (word o 14) && all_zero (drop 15 o)))
+    sign_fits (classical_outcome o)
+    && (option_fits (classical_record_flag o) (classical_record_value o)
+    && (option_fits (classical_condition_flag o) (classical_condition_value o)
+    && all_zero (behind_classical o)))
 
 -- by kind; there is none above 2
 unfoldable pub operation_fits : (width : ℕ) → Operation → Bool

@@ -2,7 +2,7 @@
 -- order (string: x, z, phase; sign: constant 0 or 1, count, eight conditions, unused ones 0; floats as bits), then zeros". The Rust's list has rotations,
 -- measurements and classical records. A rotation's fields are angle, string and sign; a measurement's string, sign, record, record_condition and exp_val; a
 -- classical record's outcome, which is a sign, record and record_condition. An Option is two words: 0, 0 or 1, value.
-use Rattle.std.specs.Prelude.{ℕ, suc, ◌+◌, ◌*◌, ◌/◌, ◌%◌, List, Bool, ◌&&◌, length, get_or, take, drop, Float, if◌then◌else◌, nat_lt, ◌==◌}
+use Rattle.std.specs.Prelude.{ℕ, suc, ◌+◌, ◌*◌, ◌/◌, ◌%◌, List, [], Bool, ◌&&◌, length, get_or, take, drop, Float, if◌then◌else◌, nat_lt, ◌==◌}
 use Rattle.std.specs.Int.Bits.{bit_and}
 use Rattle.std.specs.Int.Count.{ones_in}
 use Rattle.std.specs.Float.{binary64}
@@ -23,6 +23,10 @@ operation_count words = length words / operation_words
 unfoldable pub operations_of : List ℕ → List Operation
 operations_of words = first_chunks operation_words (operation_count words) words
 
+-- operation i of a list's words, and no words where there is none
+abbrev pub operation_at : (words : List ℕ) → ℕ → Operation
+operation_at words i = get_or (operations_of words) i []
+
 -- word j of an operation, and 0 where there is none
 abbrev pub word : Operation → ℕ → ℕ
 word o j = get_or o j 0
@@ -31,10 +35,84 @@ word o j = get_or o j 0
 abbrev pub words_from : Operation → ℕ → ℕ → List ℕ
 words_from o j n = take n (drop j o)
 
--- ---- kinds
+-- ---- the words of each kind, field by field
 
 abbrev pub kind : Operation → ℕ
 kind o = word o 0
+
+-- a rotation's, behind which are zeros
+abbrev pub rotation_angle : Operation → ℕ
+rotation_angle o = word o 1
+
+abbrev pub rotation_x : Operation → ℕ
+rotation_x o = word o 2
+
+abbrev pub rotation_z : Operation → ℕ
+rotation_z o = word o 3
+
+abbrev pub rotation_phase : Operation → ℕ
+rotation_phase o = word o 4
+
+abbrev pub rotation_sign : Operation → List ℕ
+rotation_sign o = words_from o 5 10
+
+abbrev pub behind_rotation : Operation → List ℕ
+behind_rotation o = drop 15 o
+
+-- a measurement's; its Options are the record, the record's condition and the expectation value, each a flag and a value
+abbrev pub measurement_x : Operation → ℕ
+measurement_x o = word o 1
+
+abbrev pub measurement_z : Operation → ℕ
+measurement_z o = word o 2
+
+abbrev pub measurement_phase : Operation → ℕ
+measurement_phase o = word o 3
+
+abbrev pub measurement_sign : Operation → List ℕ
+measurement_sign o = words_from o 4 10
+
+abbrev pub record_flag : Operation → ℕ
+record_flag o = word o 14
+
+abbrev pub record_value : Operation → ℕ
+record_value o = word o 15
+
+abbrev pub condition_flag : Operation → ℕ
+condition_flag o = word o 16
+
+abbrev pub condition_value : Operation → ℕ
+condition_value o = word o 17
+
+abbrev pub expectation_flag : Operation → ℕ
+expectation_flag o = word o 18
+
+abbrev pub expectation_value : Operation → ℕ
+expectation_value o = word o 19
+
+abbrev pub behind_measurement : Operation → List ℕ
+behind_measurement o = drop 20 o
+
+-- a classical record's; its Options are the record and the record's condition
+abbrev pub classical_outcome : Operation → List ℕ
+classical_outcome o = words_from o 1 10
+
+abbrev pub classical_record_flag : Operation → ℕ
+classical_record_flag o = word o 11
+
+abbrev pub classical_record_value : Operation → ℕ
+classical_record_value o = word o 12
+
+abbrev pub classical_condition_flag : Operation → ℕ
+classical_condition_flag o = word o 13
+
+abbrev pub classical_condition_value : Operation → ℕ
+classical_condition_value o = word o 14
+
+abbrev pub behind_classical : Operation → List ℕ
+behind_classical o = drop 15 o
+
+-- ---- kinds
 
 abbrev pub is_rotation : Operation → Bool
 is_rotation o = kind o == 0
@@ -42,9 +120,9 @@ is_rotation o = kind o == 0
 abbrev pub is_measurement : Operation → Bool
 is_measurement o = kind o == 1
 
--- "exp_val may be 0, so 0 alone cannot mean none": its flag is word 18
+-- "exp_val may be 0, so 0 alone cannot mean none": its flag says that there is one
 abbrev pub is_expectation : Operation → Bool
-is_expectation o = is_measurement o && (word o 18 == 1)
+is_expectation o = is_measurement o && (expectation_flag o == 1)
 
 -- ---- Pauli strings
 
@@ -76,10 +154,10 @@ same_string a b = x_of a == x_of b && z_of a == z_of b
 -- ---- a rotation's fields
 
 abbrev pub angle_of : Operation → Float
-angle_of o = of_bits binary64 (word o 1)
+angle_of o = of_bits binary64 (rotation_angle o)
 
 abbrev pub phase_of : Operation → ℕ
-phase_of o = word o 4
+phase_of o = rotation_phase o
 
 abbrev pub constant_of : Operation → ℕ
 constant_of o = word o 5

@@ -1,8 +1,8 @@
 //! An operation's kind, string, angle and sign, read from its words.
-ghost use Rattle.std.specs.Prelude.{◌≡◌, ◌+◌, ◌<◌, ◌/◌, [], length, get_or};
+ghost use Rattle.std.specs.Prelude.{◌≡◌, ◌+◌, ◌<◌, ◌/◌, length};
 ghost use Rattle.std.specs.Float.{binary64};
 ghost use Rattle.std.specs.Float.Ieee.{of_bits};
-ghost use Rattle.pending.specs.Operation.{operations_of, word, is_rotation, is_measurement, has_string, is_expectation, x_of, z_of, commute, same_string, angle_of, y_count, coefficient, is_hermitian, whole_sign};
+ghost use Rattle.pending.specs.Operation.{operation_at, word, is_rotation, is_measurement, has_string, is_expectation, x_of, z_of, commute, same_string, angle_of, y_count, coefficient, is_hermitian, whole_sign};
 
 use records::float_of;
 
@@ -17,7 +17,7 @@ pub struct Pauli {
 #[tactic(auto, using(crate::proofs::Chunks::operation_in, crate::proofs::Chunks::operation_length))]
 pub fn operation_at(words: &[u64], i: usize) -> &[u64]
     requires { i < length words.now / 32 }
-    ensures operation { result.now ≡ get_or (operations_of words.now) i [] }
+    ensures operation { result.now ≡ operation_at words.now i }
     ensures whole { length result.now ≡ 32 }
 {
     &words[32 * i..32 * i + 32]
