@@ -8,7 +8,7 @@ use Rattle.optimizer.specs.declared.fusing.Fused.{Fused}
 use Rattle.optimizer.specs.declared.segments.Segment as Declared
 use Rattle.optimizer.specs.declared.segments.Progress.{Progress}
 use Rattle.optimizer_spec.specs.Optimizing.{placed_from, ends_of, segments, segments_of, no_boundary, boundary, mapped, operations_in, pairs_in}
-use Rattle.optimizer_spec.specs.Passes.{Placed, Pair, Segment, placed, can_cross, can_fuse, cancels, fused, passed}
+use Rattle.optimizer_spec.specs.Passes.{Placed, Pair, Segment, segment_of, placed, can_cross, can_fuse, cancels, fused, passed}
 
 -- n turns of a loop, from turn i on
 abbrev pub turns : {S : Type 0} → (ℕ → S → S) → (n i : ℕ) → S → S
@@ -27,6 +27,10 @@ is_marked o = (kind o == 3)
 -- what is not marked
 abbrev pub live : List Operation → List Operation
 live os = filter (λ o. not (is_marked o)) os
+
+-- none of these is marked
+abbrev pub IsUnmarked : List Operation → Type 0
+IsUnmarked os = live os ≡ os
 
 -- ---- places
 
@@ -142,6 +146,10 @@ pub record Leaves (segment : Segment) (os : List Operation) (r : Declared.Segmen
   pub cancelled : r.cancelled ≡ cancellations segment.pairs
   pub swaps : r.swaps ≡ segment.swaps
 
+-- that is so of the operations `before`, whatever places they have
+abbrev pub OptimizesSegment : (before after : List Operation) → Declared.Segment → Type 0
+OptimizesSegment before after r = (ps : List Placed) → bare ps ≡ before → Leaves (segment_of ps) after r
+
 -- no count is larger than so many operations allow
 pub record Few (n : ℕ) (r : Declared.Segment) : Type 0 where
   pub left : r.left ≤ n
@@ -150,6 +158,10 @@ pub record Few (n : ℕ) (r : Declared.Segment) : Type 0 where
   pub swaps : r.swaps ≤ 1024 * n
 
 -- ---- all segments
+
+-- the operations from the place `start` to the place `end`, without that
+abbrev pub between : (start end : ℕ) → List Operation → List Operation
+between start end os = take (end - start) (drop start os)
 
 -- the segment that is next begins in front of this end, and no count is larger than what is in front of it allows
 pub record Going (end : ℕ) (p : Progress) : Type 0 where
@@ -170,6 +182,10 @@ ends_from n prefixes e = filter (is_end n prefixes) (range_with_len e (n + 1 - e
 -- the map's word where the code has marked the ends and no boundary is written
 abbrev pub mark : (n : ℕ) → (prefixes : List ℕ) → ℕ → ℕ
 mark n prefixes q = if is_end n prefixes q then 0 else no_boundary
+
+-- a map is marked so, up to the end of n operations
+abbrev pub EndsMarked : (n : ℕ) → (prefixes map : List ℕ) → Type 0
+EndsMarked n prefixes map = (q : ℕ) → q ≤ n → get_or map q 0 ≡ mark n prefixes q
 
 -- a boundary by the definition
 abbrev pub defined : List Operation → (prefixes : List ℕ) → ℕ → ℕ

@@ -1,5 +1,5 @@
 //! What is judged before a list is optimized: refusal 26, the shortcut for expectation values, refusals 27 and 28.
-ghost use Rattle.std.specs.Prelude.{◌≡◌, ◌/◌, false, true, ltb, length, Ok, IfOk};
+ghost use Rattle.std.specs.Prelude.{◌≡◌, ◌/◌, false, true, nat_lt, length, Ok, IfOk};
 ghost use Rattle.std.specs.List.{list_any, position_from};
 ghost use Rattle.pending.specs.Operation.{operations_of, is_expectation, is_hermitian};
 ghost use Rattle.pending.specs.Form.{form_fits};
@@ -33,7 +33,7 @@ fn has_expectation(words: &[u64]) -> bool
 
 // Whether some prefix is beyond n operations.
 fn has_prefix_beyond(n: u64, prefixes: &[u64]) -> bool
-    ensures { result ≡ list_any (ltb n) prefixes.now }
+    ensures { result ≡ list_any (nat_lt n) prefixes.now }
 {
     for i in 0..prefixes.len() {
         if n < prefixes[i] {
@@ -70,8 +70,9 @@ pub(crate) fn check_call(
     optimized_len: usize,
     map_len: usize,
 ) -> Result<Verdict, Refusal>
-    ensures answer { verdict_of result operations.now prefixes.now ≡ outcome_of width operations.now prefixes.now optimized_len map_len }
-    ensures sound { IfOk result (λ verdict. Sound width operations.now prefixes.now optimized_len map_len verdict) }
+    ensures answer { verdict_of result operations.now prefixes.now
+        ≡ outcome_of width operations.now prefixes.now optimized_len map_len }
+    ensures sound { IfOk result (Sound width operations.now prefixes.now optimized_len map_len) }
 {
     if !form_fits(width, operations, prefixes, optimized_len, map_len) {
         return Err(Reason::Form.at(0));

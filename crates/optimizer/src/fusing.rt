@@ -1,8 +1,8 @@
 //! Fusing rotations within a segment, in place: a rotation goes into the first one to the right that it can reach and fuse with.
-ghost use Rattle.std.specs.Prelude.{◌≡◌, ◌+◌, ◌*◌, ◌<◌, ◌≤◌, ◌/◌, ◌%◌, [], suc, length, get_or, set, drop, IfSome};
+ghost use Rattle.std.specs.Prelude.{◌≡◌, ◌+◌, ◌*◌, ◌<◌, ◌≤◌, ◌/◌, ◌%◌, suc, length, set, drop, IfSome};
 ghost use Rattle.std.specs.Float.{binary64};
 ghost use Rattle.std.specs.Float.Ieee.{to_bits};
-ghost use Rattle.pending.specs.Operation.{operations_of, conditions_of};
+ghost use Rattle.pending.specs.Operation.{operations_of, operation_at, conditions_of};
 ghost use Rattle.optimizer_spec.specs.Passes.{can_cross, same_words, can_fuse, direction, fused_angle, cancels, fused};
 ghost use Rattle.optimizer.specs.Working.{partner_from, partner_of, is_zero, rewritten, met, fusing_of, fusing_in, fuse_turn, turns, Within};
 
@@ -109,9 +109,10 @@ fn write_met(later: &mut [u64], angle: f64, phase: u64, constant: u64) -> bool
 fn meet(segment: &mut [u64], i: usize, j: usize) -> bool
     requires i { i < length segment.old / 32 }
     requires j { j < length segment.old / 32 }
-    ensures cancelled { result ≡ cancels (get_or (operations_of segment.old) i []) (get_or (operations_of segment.old) j []) }
+    ensures cancelled { result ≡ cancels (operation_at segment.old i) (operation_at segment.old j) }
     ensures length { length segment.new ≡ length segment.old }
-    ensures met { operations_of segment.new ≡ set (operations_of segment.old) j (met (get_or (operations_of segment.old) i []) (get_or (operations_of segment.old) j [])) }
+    ensures met { let becomes = met (operation_at segment.old i) (operation_at segment.old j) in
+        operations_of segment.new ≡ set (operations_of segment.old) j becomes }
 {
     let earlier = operation_at(segment, i);
     let later = operation_at(segment, j);
@@ -126,7 +127,8 @@ fn copy_operation(segment: &mut [u64], from: usize, to: usize)
     requires from { from < length segment.old / 32 }
     requires to { to < length segment.old / 32 }
     ensures length { length segment.new ≡ length segment.old }
-    ensures copied { operations_of segment.new ≡ set (operations_of segment.old) to (get_or (operations_of segment.old) from []) }
+    ensures copied { let copy = operation_at segment.old from in
+        operations_of segment.new ≡ set (operations_of segment.old) to copy }
 {
     if from != to {
         segment.copy_within(32 * from..32 * from + 32, 32 * to);
@@ -147,7 +149,8 @@ fn fuse_turn(segment: &mut [u64], i: usize, so_far: Fused) -> Fused
     requires counts { Within i so_far }
     ensures length { length segment.new ≡ length segment.old }
     ensures counts { Within (i + 1) result }
-    ensures turned { fusing_in (operations_of segment.new) result ≡ fuse_turn i (fusing_in (operations_of segment.old) so_far) }
+    ensures turned { let before = fusing_in (operations_of segment.old) so_far in
+        fusing_in (operations_of segment.new) result ≡ fuse_turn i before }
 {
     let mut counts = so_far;
     if word(operation_at(segment, i), 0) == MARKED {
@@ -172,7 +175,9 @@ fn fuse_turn(segment: &mut [u64], i: usize, so_far: Fused) -> Fused
 pub(crate) fn fuse_commuting_rotations(segment: &mut [u64]) -> Fused
     ensures length { length segment.new ≡ length segment.old }
     ensures counts { Within (length segment.old / 32) result }
-    ensures fused { fusing_in (operations_of segment.new) result ≡ turns fuse_turn (length segment.old / 32) 0 (fusing_of (operations_of segment.old)) }
+    ensures fused { let count = length segment.old / 32 in
+        let before = fusing_of (operations_of segment.old) in
+        fusing_in (operations_of segment.new) result ≡ turns fuse_turn count 0 before }
 {
     let mut counts = Fused {
         left: 0,

@@ -6,11 +6,11 @@ pub mod fusing;
 pub mod moving;
 pub mod segments;
 
-ghost use Rattle.std.specs.Prelude.{◌≡◌, ◌/◌, ◌%◌, ◌≤◌, ◌<◌, ◌-◌, ◌++◌, false, true, ltb, length, take, replicate};
+ghost use Rattle.std.specs.Prelude.{◌≡◌, ◌/◌, ◌%◌, ◌≤◌, ◌<◌, ◌-◌, ◌++◌, false, true, nat_lt, length, take, replicate};
 ghost use Rattle.std.specs.List.{list_any, range_with_len};
 ghost use Rattle.pending.specs.Operation.{operations_of};
 ghost use Rattle.optimizer_spec.specs.Optimizing.{as_it_is, in_segments};
-ghost use Rattle.optimizer.specs.Working.{live};
+ghost use Rattle.optimizer.specs.Working.{IsUnmarked};
 ghost use Rattle.optimizer.specs.Answer.{held, Gives, Answers};
 
 use crate::checks::{Verdict, check_call};
@@ -59,7 +59,8 @@ fn keep_as_it_is(operations: &[u64], optimized: &mut [u64], map: &mut [u64]) -> 
     requires whole { length operations.now % 32 ≡ 0 }
     requires room { length operations.now ≤ length optimized.old }
     requires map_room { length operations.now / 32 < length map.old }
-    ensures { Gives (as_it_is (operations_of operations.now)) optimized.old optimized.new map.old map.new result }
+    ensures { let kept = as_it_is (operations_of operations.now) in
+        Gives kept optimized.old optimized.new map.old map.new result }
 {
     let n = operations.len() / 32;
     put_front(operations, optimized);
@@ -85,9 +86,10 @@ fn optimize_in_segments(
     requires few { length operations.now ≤ 32768 }
     requires room { length operations.now ≤ length optimized.old }
     requires map_room { length operations.now / 32 < length map.old }
-    requires unmarked { live (operations_of operations.now) ≡ operations_of operations.now }
-    requires inside { list_any (ltb (length operations.now / 32)) prefixes.now ≡ false }
-    ensures { Gives (in_segments (operations_of operations.now) prefixes.now) optimized.old optimized.new map.old map.new result }
+    requires unmarked { IsUnmarked (operations_of operations.now) }
+    requires inside { list_any (nat_lt (length operations.now / 32)) prefixes.now ≡ false }
+    ensures { let left = in_segments (operations_of operations.now) prefixes.now in
+        Gives left optimized.old optimized.new map.old map.new result }
 {
     let n = operations.len() / 32;
     put_front(operations, optimized);
@@ -112,7 +114,8 @@ pub fn optimize_pending_operations(
     optimized: &mut [u64],
     map: &mut [u64],
 ) -> Result<Counts, Refusal>
-    ensures { Answers width operations.now prefixes.now optimized.old optimized.new map.old map.new result }
+    ensures { Answers width operations.now prefixes.now
+        optimized.old optimized.new map.old map.new result }
 {
     match check_call(width, operations, prefixes, optimized.len(), map.len()) {
         Ok(Verdict::AsItIs) => Ok(keep_as_it_is(operations, optimized, map)),

@@ -1,6 +1,6 @@
 //! Moving measurements earlier within a segment, in place: each in front of the rotations that it passes.
-ghost use Rattle.std.specs.Prelude.{◌≡◌, ◌+◌, ◌*◌, ◌<◌, ◌≤◌, ◌/◌, ◌&&◌, not, cond, [], length, get_or};
-ghost use Rattle.pending.specs.Operation.{operations_of, is_rotation, strings_commute, same_string};
+ghost use Rattle.std.specs.Prelude.{◌≡◌, ◌+◌, ◌*◌, ◌<◌, ◌≤◌, ◌/◌, ◌&&◌, not, if◌then◌else◌, length};
+ghost use Rattle.pending.specs.Operation.{operations_of, operation_at, is_rotation, strings_commute, same_string};
 ghost use Rattle.optimizer_spec.specs.Passes.{reach};
 ghost use Rattle.optimizer.specs.Working.{turns, before, passed_in, moved_to, moving, move_turn};
 
@@ -22,7 +22,7 @@ fn is_goal(slack: bool, measurement: &[u64], other: &[u64]) -> bool
 
 // What is passed where no operation about the measurement's own string is found.
 fn with_slack(slack: bool, n: usize) -> usize
-    ensures { result ≡ cond slack n 0 }
+    ensures { result ≡ (if slack then n else 0) }
 {
     if slack { n } else { 0 }
 }
@@ -30,7 +30,8 @@ fn with_slack(slack: bool, n: usize) -> usize
 // How many rotations measurement i passes: all that commute with it if there is slack, else those up to the first about its own string.
 fn reach(segment: &[u64], i: usize, slack: bool) -> usize
     requires { i < length segment.now / 32 }
-    ensures reached { result ≡ reach slack (get_or (operations_of segment.now) i []) (before i (operations_of segment.now)) }
+    ensures reached { let measurement = operation_at segment.now i in
+        result ≡ reach slack measurement (before i (operations_of segment.now)) }
     ensures inside { result ≤ i }
 {
     let measurement = operation_at(segment, i);
@@ -75,7 +76,9 @@ pub(crate) fn move_measurements_earlier(segment: &mut [u64], slack: bool) -> usi
     requires { length segment.old ≤ 32768 }
     ensures length { length segment.new ≡ length segment.old }
     ensures few { result ≤ 1024 * (length segment.old / 32) }
-    ensures moved { moving (operations_of segment.new) result ≡ turns (move_turn slack) (length segment.old / 32) 0 (moving (operations_of segment.old) 0) }
+    ensures moved { let count = length segment.old / 32 in
+        let before = moving (operations_of segment.old) 0 in
+        moving (operations_of segment.new) result ≡ turns (move_turn slack) count 0 before }
 {
     let mut swaps = 0usize;
     for i in 0..segment.len() / 32 {

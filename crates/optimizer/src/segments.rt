@@ -1,9 +1,9 @@
 //! Segments: both passes over one, and all of them in turn, each by itself, compacted behind those in front.
-ghost use Rattle.std.specs.Prelude.{◌≡◌, ℕ, ◌+◌, ◌-◌, ◌/◌, ◌<◌, ◌≤◌, ◌++◌, false, ltb, List, length, get_or, take, drop};
+ghost use Rattle.std.specs.Prelude.{◌≡◌, ℕ, ◌+◌, ◌-◌, ◌/◌, ◌<◌, ◌≤◌, ◌++◌, false, nat_lt, List, length, take, drop};
 ghost use Rattle.std.specs.List.{list_any};
 ghost use Rattle.pending.specs.Operation.{Operation, operations_of};
-ghost use Rattle.optimizer_spec.specs.Passes.{Placed, segment_of};
-ghost use Rattle.optimizer.specs.Working.{bare, live, Leaves, Few, Going, Come, mark, Finished};
+ghost use Rattle.optimizer_spec.specs.Passes.{segment_of};
+ghost use Rattle.optimizer.specs.Working.{between, IsUnmarked, OptimizesSegment, Few, Going, Come, EndsMarked, Finished};
 
 use crate::fusing::fuse_commuting_rotations;
 use crate::moving::move_measurements_earlier;
@@ -20,10 +20,10 @@ pub struct Segment {
 // Fuses the rotations of a segment of no more than 1,024 operations, none of them marked, and moves its measurements earlier. What is left stands in front.
 fn optimize_segment(segment: &mut [u64]) -> Segment
     requires short { length segment.old ≤ 32768 }
-    requires unmarked { live (operations_of segment.old) ≡ operations_of segment.old }
+    requires unmarked { IsUnmarked (operations_of segment.old) }
     ensures length { length segment.new ≡ length segment.old }
     ensures few { Few (length segment.old / 32) result }
-    ensures leaves { (ps : List Placed) → bare ps ≡ operations_of segment.old → Leaves (segment_of ps) (operations_of segment.new) result }
+    ensures leaves { OptimizesSegment (operations_of segment.old) (operations_of segment.new) result }
 {
     let fused = fuse_commuting_rotations(segment);
     let swaps = move_measurements_earlier(&mut segment[..32 * fused.left], fused.fused != 0);
@@ -40,12 +40,13 @@ fn segment_at(list: &mut [u64], start: usize, end: usize) -> Segment
     requires short { length list.old ≤ 32768 }
     requires inside { end ≤ length list.old / 32 }
     requires ascending { start ≤ end }
-    requires unmarked { live (take (end - start) (drop start (operations_of list.old))) ≡ take (end - start) (drop start (operations_of list.old)) }
+    requires unmarked { IsUnmarked (between start end (operations_of list.old)) }
     ensures length { length list.new ≡ length list.old }
     ensures few { Few (end - start) result }
     ensures front { take start (operations_of list.new) ≡ take start (operations_of list.old) }
     ensures back { drop end (operations_of list.new) ≡ drop end (operations_of list.old) }
-    ensures leaves { (ps : List Placed) → bare ps ≡ take (end - start) (drop start (operations_of list.old)) → Leaves (segment_of ps) (drop start (operations_of list.new)) result }
+    ensures leaves { let before = between start end (operations_of list.old) in
+        OptimizesSegment before (drop start (operations_of list.new)) result }
 {
     optimize_segment(&mut list[32 * start..32 * end])
 }
@@ -55,7 +56,8 @@ fn compact(list: &mut [u64], from: usize, count: usize, to: usize)
     requires inside { from + count ≤ length list.old / 32 }
     requires earlier { to ≤ from }
     ensures length { length list.new ≡ length list.old }
-    ensures front { take (to + count) (operations_of list.new) ≡ take to (operations_of list.old) ++ take count (drop from (operations_of list.old)) }
+    ensures front { let before = operations_of list.old in
+        take (to + count) (operations_of list.new) ≡ take to before ++ take count (drop from before) }
     ensures back { drop (from + count) (operations_of list.new) ≡ drop (from + count) (operations_of list.old) }
 {
     if from != to {
@@ -82,13 +84,15 @@ fn segment_turn(list: &mut [u64], map: &mut [u64], end: usize, so_far: Progress)
     requires inside { end ≤ length list.old / 32 }
     requires room { end < length map.old }
     requires going { Going end so_far }
-    requires unmarked { live (take (end - so_far.start) (drop so_far.start (operations_of list.old))) ≡ take (end - so_far.start) (drop so_far.start (operations_of list.old)) }
+    requires unmarked { IsUnmarked (between so_far.start end (operations_of list.old)) }
     ensures list_length { length list.new ≡ length list.old }
     ensures map_length { length map.new ≡ length map.old }
     ensures going { Going (end + 1) result }
     ensures further { so_far.start ≤ result.start }
     ensures rest { drop result.start (operations_of list.new) ≡ drop result.start (operations_of list.old) }
-    ensures come { (os : List Operation) (prefixes : List ℕ) → Come os prefixes end (operations_of list.old) map.old so_far → Come os prefixes (end + 1) (operations_of list.new) map.new result }
+    ensures come { (os : List Operation) (prefixes : List ℕ)
+        → Come os prefixes end (operations_of list.old) map.old so_far
+        → Come os prefixes (end + 1) (operations_of list.new) map.new result }
 {
     if map[end] == NO_BOUNDARY {
         return so_far;
@@ -109,9 +113,9 @@ fn segment_turn(list: &mut [u64], map: &mut [u64], end: usize, so_far: Progress)
 // Marks the ends of the segments of n operations in a map of n + 1 words: the preserved prefixes and the end.
 pub(crate) fn mark_ends(map: &mut [u64], prefixes: &[u64])
     requires some { 0 < length map.old }
-    requires inside { list_any (λ p. ltb (length map.old - 1) p) prefixes.now ≡ false }
+    requires inside { list_any (nat_lt (length map.old - 1)) prefixes.now ≡ false }
     ensures length { length map.new ≡ length map.old }
-    ensures marks { (q : ℕ) → q < length map.old → get_or map.new q 0 ≡ mark (length map.old - 1) prefixes.now q }
+    ensures marks { EndsMarked (length map.old - 1) prefixes.now map.new }
 {
     let n = map.len() - 1;
     map.fill(NO_BOUNDARY);
@@ -126,11 +130,13 @@ pub(crate) fn mark_ends(map: &mut [u64], prefixes: &[u64])
 pub(crate) fn optimize_segments(list: &mut [u64], map: &mut [u64]) -> Progress
     requires short { length list.old ≤ 32768 }
     requires room { length list.old / 32 < length map.old }
-    requires unmarked { live (operations_of list.old) ≡ operations_of list.old }
+    requires unmarked { IsUnmarked (operations_of list.old) }
     ensures list_length { length list.new ≡ length list.old }
     ensures map_length { length map.new ≡ length map.old }
     ensures going { Going (length list.old / 32 + 1) result }
-    ensures finished { (prefixes : List ℕ) → ((q : ℕ) → q ≤ length list.old / 32 → get_or map.old q 0 ≡ mark (length list.old / 32) prefixes q) → Finished (operations_of list.old) prefixes (operations_of list.new) map.new result }
+    ensures finished { (prefixes : List ℕ)
+        → EndsMarked (length list.old / 32) prefixes map.old
+        → Finished (operations_of list.old) prefixes (operations_of list.new) map.new result }
 {
     let mut progress = Progress {
         start: 0,
