@@ -181,7 +181,8 @@ impl PrecomputedActivePauliRotationKernel {
         angle: Angle,
         limit: u64,
     ) -> Result<Self, Reason>
-        ensures { answer_of result ≡ rotation limit action phase angle.value angle.sine angle.cosine }
+        ensures { answer_of result
+            ≡ rotation limit action phase angle.value angle.sine angle.cosine }
     {
         let dim = action.dimension(limit)?;
         Ok(rotation_kernel(action, phase, angle, dim))

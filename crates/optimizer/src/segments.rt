@@ -23,7 +23,8 @@ fn optimize_segment(segment: &mut [u64]) -> Segment
     requires unmarked { IsUnmarked (operations_of segment.old) }
     ensures length { length segment.new ≡ length segment.old }
     ensures few { Few (length segment.old / 32) result }
-    ensures leaves { OptimizesSegment (operations_of segment.old) (operations_of segment.new) result }
+    ensures leaves { let before = operations_of segment.old in
+        OptimizesSegment before (operations_of segment.new) result }
 {
     let fused = fuse_commuting_rotations(segment);
     let swaps = move_measurements_earlier(&mut segment[..32 * fused.left], fused.fused != 0);
@@ -57,8 +58,10 @@ fn compact(list: &mut [u64], from: usize, count: usize, to: usize)
     requires earlier { to ≤ from }
     ensures length { length list.new ≡ length list.old }
     ensures front { let before = operations_of list.old in
-        take (to + count) (operations_of list.new) ≡ take to before ++ take count (drop from before) }
-    ensures back { drop (from + count) (operations_of list.new) ≡ drop (from + count) (operations_of list.old) }
+        take (to + count) (operations_of list.new)
+        ≡ take to before ++ take count (drop from before) }
+    ensures back { drop (from + count) (operations_of list.new)
+        ≡ drop (from + count) (operations_of list.old) }
 {
     if from != to {
         list.copy_within(32 * from..32 * (from + count), 32 * to);
@@ -89,7 +92,8 @@ fn segment_turn(list: &mut [u64], map: &mut [u64], end: usize, so_far: Progress)
     ensures map_length { length map.new ≡ length map.old }
     ensures going { Going (end + 1) result }
     ensures further { so_far.start ≤ result.start }
-    ensures rest { drop result.start (operations_of list.new) ≡ drop result.start (operations_of list.old) }
+    ensures rest { drop result.start (operations_of list.new)
+        ≡ drop result.start (operations_of list.old) }
     ensures come { (os : List Operation) (prefixes : List ℕ)
         → Come os prefixes end (operations_of list.old) map.old so_far
         → Come os prefixes (end + 1) (operations_of list.new) map.new result }
