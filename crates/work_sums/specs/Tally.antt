@@ -5,7 +5,7 @@ use Rattle.std.specs.Float.Ieee.{add, mul}
 use Rattle.kernels.specs.Bits.{exp2}
 use Rattle.plan_spec.specs.Lists.{total}
 use Rattle.plan_spec.specs.Components.{float_two}
-use Rattle.plan_spec.specs.WholeWorks.{WholeWorks, too_wide, without_quotient, with_quotient}
+use Rattle.plan_spec.specs.WholeWorks.{WholeWorks, too_wide, without_quotient, with_quotient, WholeSums}
 use Rattle.work_sums.specs.declared.Joining.{Joining}
 use Rattle.work_sums.specs.declared.Tally.{Tally}
 use Rattle.work_sums.specs.declared.WholeWorks as Declared
@@ -163,6 +163,10 @@ measured_tally t j k =
       measurements = next.measurements + 1;
       quantum = next.quantum;
     }
+
+-- the sums' whole works and widest width
+abbrev pub whole_sums_of : Tally → WholeSums
+whole_sums_of t = record { dense = t.whole_dense; component = t.whole_work; widest = t.widest }
 
 -- the code's whole works as the definition has them
 abbrev pub works_of : Declared.WholeWorks → WholeWorks

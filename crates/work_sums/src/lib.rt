@@ -5,7 +5,7 @@
 
 ghost use Rattle.std.specs.Prelude.{◌≡◌, ◌+◌, ◌*◌, ◌%◌, ◌^◌, ◌<◌, ◌≤◌, max, slice_index};
 ghost use Rattle.plan_spec.specs.WholeWorks.{whole_works_of};
-ghost use Rattle.work_sums.specs.Tally.{Countable, joining_of, JoinFits, start_tally, joined_tally, ignored_tally, rotated_tally, promoted_tally, measured_tally, power_left, works_of};
+ghost use Rattle.work_sums.specs.Tally.{Countable, joining_of, JoinFits, start_tally, joined_tally, ignored_tally, rotated_tally, promoted_tally, measured_tally, power_left, works_of, whole_sums_of};
 
 use kernels::bits::exact_exp2;
 
@@ -225,7 +225,7 @@ impl Tally {
     /// The works as whole numbers, and how many times the component work goes into the dense one.
     #[tactic(auto, unfolding(plan_spec::specs::WholeWorks::whole_works_of))]
     pub fn whole_works(self) -> WholeWorks
-        ensures { works_of result ≡ whole_works_of (record { dense = self.whole_dense; component = self.whole_work; widest = self.widest }) }
+        ensures { works_of result ≡ whole_works_of (whole_sums_of self) }
     {
         let dense = self.whole_dense;
         let component = self.whole_work;
