@@ -65,6 +65,10 @@ trailer_in file = map (trailer_word file) (numbers_from 0 trailer_words)
 abbrev pub count_of : (trailer : List ℕ) → (s : ℕ) → ℕ
 count_of trailer s = get_or trailer (2 * s + 1) 0
 
+-- the seven starts and counts in a trailer, in turn
+abbrev pub pointers_in : List ℕ → List ℕ
+pointers_in trailer = map (λ i. get_or trailer i 0) (numbers_from 0 14)
+
 -- the six counts in a trailer
 abbrev pub counts_in : List ℕ → WordCounts
 counts_in trailer = record {

@@ -2,14 +2,13 @@
 //! only the trailer and component_count are looked at.
 #![tactic(auto)]
 
-ghost use Rattle.std.specs.Prelude.{◌≡◌, cond, map, ◌+◌, ◌*◌, ◌≤◌, length, get_or, IfOk};
-ghost use Rattle.plan_spec.specs.Lists.{numbers_from};
+ghost use Rattle.std.specs.Prelude.{◌≡◌, if◌then◌else◌, ◌+◌, ◌*◌, ◌≤◌, length, IfOk};
 ghost use Rattle.plan_spec.specs.Plan.{padded};
 ghost use Rattle.file_words.specs.Words.{words_at};
 ghost use Rattle.plan_buffers.specs.Stored.{outputs_of, SameOutputs};
 ghost use Rattle.stored_plan.specs.Reading.{file_refused, touch, odd_counts, read_file};
 ghost use Rattle.refusals.specs.Answer.{number_or_0};
-ghost use Rattle.stored_plan.specs.Loading.{Loads, number_of, scalar_list, trailer_in, counts_in};
+ghost use Rattle.stored_plan.specs.Loading.{Loads, number_of, scalar_list, trailer_in, pointers_in, counts_in};
 
 use file_words::{get_words, word_at};
 use plan_buffers::buffers::fill_from;
@@ -38,7 +37,7 @@ pub struct StoredPlan {
 
 // The sixteen words of a file's trailer, or refusal 21.
 fn trailer_of(file: &[u8]) -> Result<[u64; 16], Reason>
-    ensures number { number_or_0 result ≡ cond (file_refused file.now) 21 0 }
+    ensures number { number_or_0 result ≡ (if file_refused file.now then 21 else 0) }
     ensures trailer { IfOk result (λ words. words ≡ trailer_in file.now) }
 {
     let n = file.len();
@@ -56,7 +55,7 @@ fn trailer_of(file: &[u8]) -> Result<[u64; 16], Reason>
 
 // Whether the seven sections touch, in order, from word 0 to the trailer. No sum is formed that could wrap.
 fn sections_touch(trailer: &[u64; 16], end: usize) -> bool
-    ensures { result ≡ touch 0 end (map (λ i. get_or trailer.now i 0) (numbers_from 0 14)) }
+    ensures { result ≡ touch 0 end (pointers_in trailer.now) }
 {
     let mut at = 0usize;
     for s in 0..7usize {
