@@ -88,8 +88,9 @@ pub record BeforeJoin (s : State) (sources : List ℕ) : Type 0 where
 -- ---- "a new coordinate and component, both next numbers"
 
 -- room for one coordinate and one component more
-abbrev pub BeforePromotion : State → Type 0
-BeforePromotion s = (s.width < 512) × (s.count < 512)
+pub record BeforePromotion (s : State) : Type 0 where
+  pub width : s.width < 512
+  pub count : s.count < 512
 
 unfoldable pub promoted : State → State
 promoted s = record {

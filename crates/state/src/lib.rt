@@ -42,7 +42,8 @@ pub fn first_order(k: usize) -> [u16; 512]
 
 /// A coordinate behind the last of the active order.
 pub fn append(order: &mut [u16; 512], width: usize, coordinate: usize)
-    requires { (width < 512) × (coordinate < 512) }
+    requires room { width < 512 }
+    requires number { coordinate < 512 }
     ensures { order.new ≡ set order.old width coordinate }
 {
     order[width] = coordinate as u16;
@@ -50,7 +51,9 @@ pub fn append(order: &mut [u16; 512], width: usize, coordinate: usize)
 
 /// The coordinate at a position leaves the active order, and those behind it, up to the last, move down.
 pub fn close_gap(order: &mut [u16; 512], pivot: usize, last: usize)
-    requires { (pivot ≤ last) × (last < 512) × (length order.old ≡ 512) }
+    requires active { pivot ≤ last }
+    requires inside { last < 512 }
+    requires long { length order.old ≡ 512 }
     ensures { Closed pivot last order.old order.new }
 {
     order[..].copy_within(pivot + 1..last + 1, pivot);
@@ -60,8 +63,8 @@ pub fn close_gap(order: &mut [u16; 512], pivot: usize, last: usize)
 /// component's members: 0 for the first source's, and for those of a component that is no source.
 pub fn gather_sizes(size: &mut [u8; 512], sources: &[u64]) -> [u8; 512]
     requires { Joinable size.old sources.now }
-    ensures { (result ≡ (gathering size.old sources.now).rise)
-        × (size.new ≡ sizes_after size.old sources.now) }
+    ensures rise { result ≡ (gathering size.old sources.now).rise }
+    ensures sizes { size.new ≡ sizes_after size.old sources.now }
 {
     let mut rise = [0u8; 512];
     let target = sources[0] as usize;

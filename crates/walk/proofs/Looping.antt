@@ -21,7 +21,7 @@ use Rattle.plan_spec.proofs.Room.{width_of}
 use Rattle.state.specs.declared.State.{State}
 use Rattle.work_sums.specs.declared.Tally.{Tally}
 use Rattle.work_sums.specs.declared.Joining.{Joining}
-use Rattle.state.specs.Steps.{InOrder, Closed, Started, Joined, promoted, BeforeRemoval, Removed}
+use Rattle.state.specs.Steps.{InOrder, Closed, Started, Joined, BeforePromotion, promoted, BeforeRemoval, Removed}
 use Rattle.work_sums.specs.Tally.{start_tally, joining_of, ignored_tally}
 use Rattle.plan_buffers.specs.Buffers.{patch, counts_of, CountsFit, placed_up_to, PlacesFit}
 use Rattle.state_model.specs.Represents.{Ordered, Represents}
@@ -351,9 +351,9 @@ module _ {limit k : ℕ} {ws : List ℕ} {i : ℕ} {o : List ℕ} {s : State} {t
           subst (λ (v : State). PromotionFits v.count s.width i t c.steps c.sizes c.promotions) (sym same_state)
           (T.promotion_fits limit k ws lo.b lo.ok i next lo.w s t c lo.at lo.long promotion_now)
 
-      pub promoted_asks : (u.width < 512) × (u.count < 512)
+      pub promoted_asks : BeforePromotion u
       promoted_asks =
-          subst (λ (v : State). (v.width < 512) × (v.count < 512)) (sym same_state)
+          subst (λ (v : State). BeforePromotion v) (sym same_state)
           (T.state_room limit k ws lo.b lo.ok i next lo.w s t c lo.at lo.long promotion_now)
 
       pub promote_goes : (t' : Tally) (c' : Buffers) (v : State) (o' : List ℕ)
@@ -372,7 +372,7 @@ module _ {limit k : ℕ} {ws : List ℕ} {i : ℕ} {o : List ℕ} {s : State} {t
           (subst (λ (l : List ℕ). Ordered l (lo.w.order ++ (length lo.w.components ∷ [])))
           (sym (appended ∙ ap (λ (y : State). set o y.width y.count) same_state ∙ ap (set o s.width) lo.at.rep.count))
           (ordered_promotion o lo.w.order lo.ordered
-          (let f = (T.state_room limit k ws lo.b lo.ok i next lo.w s t c lo.at lo.long promotion_now).0 in omega (arith, wide)) s.width (length lo.w.components) wide))
+          (let f = (T.state_room limit k ws lo.b lo.ok i next lo.w s t c lo.at lo.long promotion_now).width in omega (arith, wide)) s.width (length lo.w.components) wide))
 
     -- ---- records that do nothing
 

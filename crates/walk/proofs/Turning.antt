@@ -35,7 +35,7 @@ use Rattle.state.specs.declared.State.{State}
 use Rattle.work_sums.specs.declared.Tally.{Tally}
 use Rattle.work_sums.specs.declared.Joining.{Joining}
 use Rattle.masks.specs.Positions.{local_of}
-use Rattle.state.specs.Steps.{BeforeJoin, promoted, BeforeRemoval, Removed}
+use Rattle.state.specs.Steps.{BeforeJoin, BeforePromotion, promoted, BeforeRemoval, Removed}
 use Rattle.work_sums.specs.Tally.{powers, power_left, joining_of, Countable, JoinFits, ignored_tally, joined_tally, rotated_tally, promoted_tally, measured_tally}
 use Rattle.work_sums.proofs.Sums.{left_below, kept_sum, kept_joined}
 use Rattle.plan_buffers.specs.Buffers.{patch}
@@ -567,8 +567,11 @@ module _ (limit k : ℕ) (ws : List ℕ) (b : Buffers) (ok : Walkable k ws b) (i
     active_fewer : length w.order < 512
     active_fewer = let f = fewer in let q = (kept limit k ws b ok i upto w s t c at).active in omega arith
 
-    pub state_room : (s.width < 512) × (s.count < 512)
-    state_room = (let e = at.rep.width in let f = active_fewer in omega arith, let e = at.rep.count in let f = fewer in omega arith)
+    pub state_room : BeforePromotion s
+    state_room = record {
+      width = let e = at.rep.width in let f = active_fewer in omega arith;
+      count = let e = at.rep.count in let f = fewer in omega arith;
+    }
 
     pub promotion_fits : PromotionFits s.count s.width i t c.steps c.sizes c.promotions
     promotion_fits = record {
