@@ -11,6 +11,23 @@ use Rattle.plan_buffers.specs.Outputs.{Buffers, lengths_of}
 use Rattle.lent.specs.Lent.{Held}
 use Rattle.answer.specs.Outcome.{Outcome, accepted, turned_away, outcome_in}
 
+-- the head of a call's first four words
+abbrev pub head_of : (initial_k max_k nexpvals ceiling : ℕ) → Head
+head_of initial_k max_k nexpvals ceiling =
+    record { initial_k = initial_k; max_k = max_k; nexpvals = nexpvals; ceiling = ceiling }
+
+-- the seven lent buffers, in the order of a call
+abbrev pub seven_buffers : (steps merges sizes rotations promotions measurements groups : List ℕ) → Buffers
+seven_buffers steps merges sizes rotations promotions measurements groups = record {
+  steps = steps;
+  merges = merges;
+  sizes = sizes;
+  rotations = rotations;
+  promotions = promotions;
+  measurements = measurements;
+  groups = groups;
+}
+
 -- 0 for a plan, else the refusal's number
 abbrev pub number_of : Outcome → ℕ
 number_of (accepted selected initial count dense component dense_peak peak allocated whole used) = 0

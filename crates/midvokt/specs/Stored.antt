@@ -34,6 +34,17 @@ pub record StoreReplies (h : Head) (ws : List ℕ) (before after : Buffers) (fil
 
 -- ---- reading
 
+-- the six lent outputs, in the order of a call
+abbrev pub six_outputs : (steps merges sizes rotations promotions measurements : List ℕ) → Outputs
+six_outputs steps merges sizes rotations promotions measurements = record {
+  steps = steps;
+  merges = merges;
+  sizes = sizes;
+  rotations = rotations;
+  promotions = promotions;
+  measurements = measurements;
+}
+
 -- 0 for a plan, else the refusal's number
 abbrev pub load_number : Loading.Outcome → ℕ
 load_number (Loading.given scalars counts) = 0

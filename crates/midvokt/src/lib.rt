@@ -9,7 +9,7 @@ ghost use Rattle.std.specs.Prelude.{◌≡◌, length, Ok};
 ghost use Rattle.plan_spec.specs.WholeWorks.{whole_words};
 ghost use Rattle.work_sums.specs.Tally.{works_of};
 ghost use Rattle.answer.specs.Outcome.{outcome_of};
-ghost use Rattle.midvokt.specs.Reply.{Replies, number_in, words_of, laid_out};
+ghost use Rattle.midvokt.specs.Reply.{head_of, seven_buffers, Replies, number_in, words_of, laid_out};
 
 use answer::ActiveComponentPlan;
 use component_plan::build_active_component_plan;
@@ -96,7 +96,12 @@ pub fn midvokt_plan(
     groups: &mut [u64],
     res: &mut [u64],
 ) -> u64
-    ensures { Replies (record { initial_k = initial_k; max_k = max_k; nexpvals = nexpvals; ceiling = ceiling }) records.now (record { steps = steps.old; merges = merges.old; sizes = sizes.old; rotations = rotations.old; promotions = promotions.old; measurements = measurements.old; groups = groups.old }) (record { steps = steps.new; merges = merges.new; sizes = sizes.new; rotations = rotations.new; promotions = promotions.new; measurements = measurements.new; groups = groups.new }) res.old res.new result }
+    ensures { let head = head_of initial_k max_k nexpvals ceiling in
+        let before = seven_buffers steps.old merges.old sizes.old
+        rotations.old promotions.old measurements.old groups.old in
+        let after = seven_buffers steps.new merges.new sizes.new
+        rotations.new promotions.new measurements.new groups.new in
+        Replies head records.now before after res.old res.new result }
 {
     let head = Head {
         initial_k,

@@ -34,7 +34,8 @@ pub fn midvokt_optimize(
     map: &mut [u64],
     res: &mut [u64],
 ) -> u64
-    ensures { OptimizeReplies width operations.now prefixes.now optimized.old optimized.new map.old map.new res.old res.new result }
+    ensures { OptimizeReplies width operations.now prefixes.now
+        optimized.old optimized.new map.old map.new res.old res.new result }
 {
     let counts = optimize_pending_operations(width, operations, prefixes, optimized, map);
     lay_out(&optimize_words(counts), res);

@@ -2,7 +2,8 @@
 ghost use Rattle.std.specs.Prelude.{◌≡◌};
 ghost use Rattle.stored_plan.specs.Loading as Loading;
 ghost use Rattle.store.specs.Storing as Storing;
-ghost use Rattle.midvokt.specs.Stored.{store_words, StoreReplies, load_words, LoadReplies};
+ghost use Rattle.midvokt.specs.Reply.{head_of, seven_buffers};
+ghost use Rattle.midvokt.specs.Stored.{store_words, StoreReplies, six_outputs, load_words, LoadReplies};
 
 use crate::{lay_out, reply_number};
 use plan_buffers::StoredOutputs;
@@ -68,7 +69,12 @@ pub fn midvokt_store(
     file: &mut [u8],
     res: &mut [u64],
 ) -> u64
-    ensures { StoreReplies (record { initial_k = initial_k; max_k = max_k; nexpvals = nexpvals; ceiling = ceiling }) records.now (record { steps = steps.old; merges = merges.old; sizes = sizes.old; rotations = rotations.old; promotions = promotions.old; measurements = measurements.old; groups = groups.old }) (record { steps = steps.new; merges = merges.new; sizes = sizes.new; rotations = rotations.new; promotions = promotions.new; measurements = measurements.new; groups = groups.new }) file.old file.new res.old res.new result }
+    ensures { let head = head_of initial_k max_k nexpvals ceiling in
+        let before = seven_buffers steps.old merges.old sizes.old
+        rotations.old promotions.old measurements.old groups.old in
+        let after = seven_buffers steps.new merges.new sizes.new
+        rotations.new promotions.new measurements.new groups.new in
+        StoreReplies head records.now before after file.old file.new res.old res.new result }
 {
     let head = Head {
         initial_k,
@@ -101,7 +107,11 @@ pub fn midvokt_load(
     measurements: &mut [u64],
     res: &mut [u64],
 ) -> u64
-    ensures { LoadReplies file.now (record { steps = steps.old; merges = merges.old; sizes = sizes.old; rotations = rotations.old; promotions = promotions.old; measurements = measurements.old }) (record { steps = steps.new; merges = merges.new; sizes = sizes.new; rotations = rotations.new; promotions = promotions.new; measurements = measurements.new }) res.old res.new result }
+    ensures { let before = six_outputs steps.old merges.old sizes.old
+        rotations.old promotions.old measurements.old in
+        let after = six_outputs steps.new merges.new sizes.new
+        rotations.new promotions.new measurements.new in
+        LoadReplies file.now before after res.old res.new result }
 {
     let mut out = StoredOutputs {
         steps,

@@ -2,9 +2,9 @@
 //! again. include/midvokt.h has the declarations.
 #![tactic(auto)]
 
-ghost use Rattle.midvokt.specs.Reply.{Replies};
+ghost use Rattle.midvokt.specs.Reply.{head_of, seven_buffers, Replies};
 ghost use Rattle.midvokt.specs.Optimized.{OptimizeReplies};
-ghost use Rattle.midvokt.specs.Stored.{StoreReplies, LoadReplies};
+ghost use Rattle.midvokt.specs.Stored.{StoreReplies, six_outputs, LoadReplies};
 
 use midvokt::midvokt_plan as plan_call;
 use midvokt::optimizing::midvokt_optimize as optimize_call;
@@ -28,7 +28,12 @@ pub extern "C" fn midvokt_plan(
     groups: &mut [u64],
     res: &mut [u64],
 ) -> u64
-    ensures { Replies (record { initial_k = initial_k; max_k = max_k; nexpvals = nexpvals; ceiling = ceiling }) records.now (record { steps = steps.old; merges = merges.old; sizes = sizes.old; rotations = rotations.old; promotions = promotions.old; measurements = measurements.old; groups = groups.old }) (record { steps = steps.new; merges = merges.new; sizes = sizes.new; rotations = rotations.new; promotions = promotions.new; measurements = measurements.new; groups = groups.new }) res.old res.new result }
+    ensures { let head = head_of initial_k max_k nexpvals ceiling in
+        let before = seven_buffers steps.old merges.old sizes.old
+        rotations.old promotions.old measurements.old groups.old in
+        let after = seven_buffers steps.new merges.new sizes.new
+        rotations.new promotions.new measurements.new groups.new in
+        Replies head records.now before after res.old res.new result }
 {
     plan_call(
         initial_k,
@@ -66,7 +71,12 @@ pub extern "C" fn midvokt_store(
     file: &mut [u8],
     res: &mut [u64],
 ) -> u64
-    ensures { StoreReplies (record { initial_k = initial_k; max_k = max_k; nexpvals = nexpvals; ceiling = ceiling }) records.now (record { steps = steps.old; merges = merges.old; sizes = sizes.old; rotations = rotations.old; promotions = promotions.old; measurements = measurements.old; groups = groups.old }) (record { steps = steps.new; merges = merges.new; sizes = sizes.new; rotations = rotations.new; promotions = promotions.new; measurements = measurements.new; groups = groups.new }) file.old file.new res.old res.new result }
+    ensures { let head = head_of initial_k max_k nexpvals ceiling in
+        let before = seven_buffers steps.old merges.old sizes.old
+        rotations.old promotions.old measurements.old groups.old in
+        let after = seven_buffers steps.new merges.new sizes.new
+        rotations.new promotions.new measurements.new groups.new in
+        StoreReplies head records.now before after file.old file.new res.old res.new result }
 {
     store_call(
         initial_k,
@@ -99,7 +109,11 @@ pub extern "C" fn midvokt_load(
     measurements: &mut [u64],
     res: &mut [u64],
 ) -> u64
-    ensures { LoadReplies file.now (record { steps = steps.old; merges = merges.old; sizes = sizes.old; rotations = rotations.old; promotions = promotions.old; measurements = measurements.old }) (record { steps = steps.new; merges = merges.new; sizes = sizes.new; rotations = rotations.new; promotions = promotions.new; measurements = measurements.new }) res.old res.new result }
+    ensures { let before = six_outputs steps.old merges.old sizes.old
+        rotations.old promotions.old measurements.old in
+        let after = six_outputs steps.new merges.new sizes.new
+        rotations.new promotions.new measurements.new in
+        LoadReplies file.now before after res.old res.new result }
 {
     load_call(
         file,
@@ -124,7 +138,8 @@ pub extern "C" fn midvokt_optimize(
     map: &mut [u64],
     res: &mut [u64],
 ) -> u64
-    ensures { OptimizeReplies width operations.now prefixes.now optimized.old optimized.new map.old map.new res.old res.new result }
+    ensures { OptimizeReplies width operations.now prefixes.now
+        optimized.old optimized.new map.old map.new res.old res.new result }
 {
     optimize_call(width, operations, prefixes, optimized, map, res)
 }
