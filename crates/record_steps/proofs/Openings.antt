@@ -9,7 +9,7 @@ use borrow.Author.Tests.{eq-eqb}
 use Rattle.records.specs.declared.Instruction.{Instruction}
 use Rattle.records.specs.declared.Instruction.TheVariants.{Rotation}
 use Rattle.plan_spec.proofs.Steps.{cond_yes}
-use Rattle.record_steps.specs.Turns.{number_before, sources_before}
+use Rattle.record_steps.specs.RecordSteps.{number_before, sources_before}
 
 pub rotation_empty : (width : ℕ) (sources : ℕ → ℕ → List ℕ) {i : Instruction} {w x z phase : ℕ} {angle sine cosine : Float} → i ≡ Rotation w x z phase angle sine cosine → w ≡ width → width ≡ 0
     → (number_before width i ≡ 0) × (sources_before width sources i ≡ [])

@@ -6,7 +6,7 @@ ghost use Rattle.plan_buffers.specs.Buffers.{patch};
 ghost use Rattle.masks.specs.Positions.{local_of};
 ghost use Rattle.refusals.specs.Answer.{answer_of, given};
 ghost use Rattle.work_sums.specs.Tally.{joining_of};
-ghost use Rattle.record_steps.specs.Turns.{sources_at, GatherFits, WhereJoined, Opened, local_action_of, Settled, JoinedFits, pivot_answer, rotation_answer, RotationDone, measurement_answer, MeasurementDone, PromotionFits, PromotionDone};
+ghost use Rattle.record_steps.specs.RecordSteps.{sources_at, GatherFits, WhereJoined, Opened, local_action_of, Settled, JoinedFits, pivot_answer, rotation_answer, RotationDone, measurement_answer, MeasurementDone, PromotionFits, PromotionDone};
 ghost use Rattle.plan_spec.specs.Rows.{measurement_words, rotation_words};
 
 use kernels::active::{
@@ -28,9 +28,10 @@ pub struct Pauli {
     pub phase: u64,
 }
 
-/// A record's turn: its index, how many coordinates are active before it, and the size that a component has to be below.
+/// Where a record stands: its index, how many coordinates are active before it, and the size that a
+/// component has to be below.
 #[derive(Clone, Copy, Debug, PartialEq, Eq)]
-pub struct Turn {
+pub struct AtRecord {
     pub index: usize,
     pub width: u64,
     pub limit: u64,
@@ -59,7 +60,7 @@ fn gather<'a>(
 }
 
 /// The join that a record makes, or none where it makes none, or refusal 11, 12 or 13.
-#[tactic(auto, using(crate::proofs::Patches::patch_none), unfolding(crate::specs::Turns::number_before, crate::specs::Turns::sources_before, masks::specs::Positions::sources_in))]
+#[tactic(auto, using(crate::proofs::Patches::patch_none), unfolding(crate::specs::RecordSteps::number_before, crate::specs::RecordSteps::sources_before, masks::specs::Positions::sources_in))]
 pub fn open<'a>(
     instruction: Instruction,
     width: u64,
@@ -136,37 +137,37 @@ pub fn rotate(
     pauli: Pauli,
     angle: Angle,
     join: Joining,
-    turn: Turn,
+    here: AtRecord,
     tally: Tally,
     place: &[u8; 512],
     steps: &mut [u64],
     sizes: &mut [u64],
     rotations: &mut [u64],
 ) -> Result<Tally, Reason>
-    requires joined_fits { JoinedFits place.now pauli.x pauli.z turn.width turn.index join tally steps.old sizes.old }
+    requires joined_fits { JoinedFits place.now pauli.x pauli.z here.width here.index join tally steps.old sizes.old }
     requires row_room { rotation_words * tally.rotations + rotation_words ≤ length rotations.old }
-    ensures { Settled (rotation_answer turn.limit place.now pauli.x pauli.z pauli.phase angle.value angle.sine angle.cosine turn.width join.size) result
-        (λ next. RotationDone turn.width turn.index join tally next steps.old sizes.old rotations.old steps.new sizes.new rotations.new) }
+    ensures { Settled (rotation_answer here.limit place.now pauli.x pauli.z pauli.phase angle.value angle.sine angle.cosine here.width join.size) result
+        (λ next. RotationDone here.width here.index join tally next steps.old sizes.old rotations.old steps.new sizes.new rotations.new) }
 {
-    let action = local_action(place, pauli, turn.width, join.size);
-    let kernel = PrecomputedActivePauliRotationKernel::new(action, pauli.phase, angle, turn.limit)?;
+    let action = local_action(place, pauli, here.width, join.size);
+    let kernel = PrecomputedActivePauliRotationKernel::new(action, pauli.phase, angle, here.limit)?;
     let head = head_of(join, tally);
     put(rotations, tally.rotations, RotationRow { head, kernel });
     let step = step_of(StepKind::Rotation, tally.rotations);
-    put(steps, turn.index, step);
+    put(steps, here.index, step);
     raise_size(sizes, join.target as usize, join.size);
-    Ok(tally.rotated(join, turn.width))
+    Ok(tally.rotated(join, here.width))
 }
 
 // Refusal 14, 15 or 16 of a measurement.
-fn check_pivot(component: &[u16; 512], pivot: u64, join: Joining, turn: Turn) -> Result<(), Reason>
-    requires { turn.width < 64 }
-    ensures { answer_of result ≡ pivot_answer turn.limit component.now pivot turn.width join (given tt) }
+fn check_pivot(component: &[u16; 512], pivot: u64, join: Joining, here: AtRecord) -> Result<(), Reason>
+    requires { here.width < 64 }
+    ensures { answer_of result ≡ pivot_answer here.limit component.now pivot here.width join (given tt) }
 {
-    if turn.limit <= join.size {
+    if here.limit <= join.size {
         return Err(Reason::ComponentSize);
     }
-    if turn.width <= pivot {
+    if here.width <= pivot {
         return Err(Reason::Pivot);
     }
     let at = pivot as usize;
@@ -183,7 +184,7 @@ pub fn measure<'a>(
     pauli: Pauli,
     pivot: u64,
     join: Joining,
-    turn: Turn,
+    here: AtRecord,
     tally: Tally,
     component: &'a [u16; 512],
     place: &'a [u8; 512],
@@ -191,19 +192,19 @@ pub fn measure<'a>(
     sizes: &mut [u64],
     measurements: &mut [u64],
 ) -> Result<Tally, Reason>
-    requires joined_fits { JoinedFits place.now pauli.x pauli.z turn.width turn.index join tally steps.old sizes.old }
+    requires joined_fits { JoinedFits place.now pauli.x pauli.z here.width here.index join tally steps.old sizes.old }
     requires row_room { measurement_words * tally.measurements + measurement_words ≤ length measurements.old }
-    ensures { Settled (measurement_answer turn.limit component.now place.now pauli.x pauli.z pauli.phase pivot turn.width join) result
-        (λ next. MeasurementDone turn.width turn.index join tally next steps.old sizes.old measurements.old steps.new sizes.new measurements.new) }
+    ensures { Settled (measurement_answer here.limit component.now place.now pauli.x pauli.z pauli.phase pivot here.width join) result
+        (λ next. MeasurementDone here.width here.index join tally next steps.old sizes.old measurements.old steps.new sizes.new measurements.new) }
 {
-    check_pivot(component, pivot, join, turn)?;
-    let action = local_action(place, pauli, turn.width, join.size);
+    check_pivot(component, pivot, join, here)?;
+    let action = local_action(place, pauli, here.width, join.size);
     let local = u64::from(place[pivot as usize]);
     let kernel = PrecomputedActivePauliMeasurementKernel::with_pivot(
         action,
         pauli.phase,
         local,
-        turn.limit,
+        here.limit,
     )?;
     let measured = MeasurementRow {
         head: head_of(join, tally),
@@ -212,28 +213,28 @@ pub fn measure<'a>(
     };
     put(measurements, tally.measurements, measured);
     let step = step_of(StepKind::Measurement, tally.measurements);
-    put(steps, turn.index, step);
+    put(steps, here.index, step);
     raise_size(sizes, join.target as usize, join.size);
-    Ok(tally.measured(join, turn.width))
+    Ok(tally.measured(join, here.width))
 }
 
 /// Writes the row, the step and the longest size of a promotion, whose component has the next number.
 // Kept: of the lent buffers, only the three that it writes, so that its contract need not say that the others are as they were.
 pub fn promote(
     next: usize,
-    turn: Turn,
+    here: AtRecord,
     tally: Tally,
     steps: &mut [u64],
     sizes: &mut [u64],
     promotions: &mut [u64],
 ) -> Tally
-    requires { PromotionFits next turn.width turn.index tally steps.old sizes.old promotions.old }
-    ensures { PromotionDone next turn.width turn.index tally result steps.old sizes.old promotions.old steps.new sizes.new promotions.new }
+    requires { PromotionFits next here.width here.index tally steps.old sizes.old promotions.old }
+    ensures { PromotionDone next here.width here.index tally result steps.old sizes.old promotions.old steps.new sizes.new promotions.new }
 {
     let row = tally.promotions;
     promotions[row] = next as u64;
     let step = step_of(StepKind::Promotion, row);
-    put(steps, turn.index, step);
+    put(steps, here.index, step);
     sizes[next] = 1;
-    tally.promoted(turn.width)
+    tally.promoted(here.width)
 }

@@ -34,7 +34,7 @@ use Rattle.state_model.proofs.Sources.{sources_same, reached_source, stands, sta
 use Rattle.state_model.proofs.Joining.{size_most, joinable, before_join, represents_join}
 use Rattle.state_model.proofs.LocalMasks.{bit_reached, local_same, pivot_in, pivot_place}
 use Rattle.state_model.proofs.Sums.{live_join, powers_live}
-use Rattle.record_steps.specs.Turns.{sources_at}
+use Rattle.record_steps.specs.RecordSteps.{sources_at}
 
 -- ---- sums over sources, by sizes and by members
 

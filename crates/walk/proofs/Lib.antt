@@ -2,8 +2,8 @@ pub mod Filling
 pub mod Reaching
 pub mod Joining
 pub mod Stepping
-pub mod Turning
+pub mod OneRecord
 pub mod Ending
 pub mod Making
-pub mod Turned
+pub mod Stopping
 pub mod Looping

@@ -1,4 +1,5 @@
--- What each place of one turn asks and gives, and what the ends of the loop do, where the walk stands after as many records: by the lemmas on the definition's step.
+-- What each place of one record's step asks and gives, and what the ends of the loop do, where the walk
+-- stands after as many records: by the lemmas on the definition's step.
 use Rattle.std.specs.Prelude.{Option, Some, None, Ok}
 use mathlib.Core.Path.{◌≡◌, refl, sym, ap, ap₂, ◌∙◌, subst}
 use mathlib.Core.Logic.{⊎_elim}
@@ -29,11 +30,11 @@ use Rattle.state_model.proofs.Moving.{ordered_start, ordered_promotion, ordered_
 use Rattle.plan_buffers.specs.Outputs.{Buffers, SameLengths}
 use Rattle.walk.specs.Walking.{Begins, WalkEnds, Walkable}
 use Rattle.walk.specs.Looping.{Reached, Looping, Joins, JoinMade, sources_of, Met}
-use Rattle.record_steps.specs.Turns.{sources_at, GatherFits, number_before, sources_before, WhereJoined, join_before, JoinedFits, rotation_answer, RotationDone, measurement_answer, MeasurementDone, PromotionFits, PromotionDone}
+use Rattle.record_steps.specs.RecordSteps.{sources_at, GatherFits, number_before, sources_before, WhereJoined, join_before, JoinedFits, rotation_answer, RotationDone, measurement_answer, MeasurementDone, PromotionFits, PromotionDone}
 use Rattle.walk.proofs.Reaching.{width_next}
 use Rattle.walk.proofs.Joining as J
 use Rattle.walk.proofs.Stepping.{rotation_width, measurement_width}
-use Rattle.walk.proofs.Turning as T
+use Rattle.walk.proofs.OneRecord as R
 use Rattle.walk.proofs.Ending as E
 use Rattle.walk.proofs.Ending.{reached_start}
 use Rattle.record_steps.proofs.Patches.{patch_none}
@@ -86,7 +87,7 @@ does_nothing limit w width f RecordDetector r p m = (refl, refl)
 does_nothing limit w width f Expectation r p m = (refl, refl)
 does_nothing limit w width f DormantBranch r p m = (refl, refl)
 
--- ---- one turn
+-- ---- one record
 
 module _ {limit k : ℕ} {ws : List ℕ} {i : ℕ} {o : List ℕ} {s : State} {t : Tally} {c : Buffers} (lo : Looping limit k ws i o s t c) (next : i < length ws / 8) {x : Instruction}
     (read : x ≡ instruction_of (record_at ws i)) where
@@ -102,10 +103,10 @@ module _ {limit k : ℕ} {ws : List ℕ} {i : ℕ} {o : List ℕ} {s : State} {t
   pub opening : WhereJoined s.width (λ a z. GatherFits s.component s.size s.width t.merges (length c.merges) a z) x
   opening =
       subst (WhereJoined s.width (λ a z. GatherFits s.component s.size s.width t.merges (length c.merges) a z)) now
-      (T.open_fits limit k ws lo.b lo.ok i next lo.w s t c lo.at lo.long)
+      (R.open_fits limit k ws lo.b lo.ok i next lo.w s t c lo.at lo.long)
 
   pub opening_stops : (number : ℕ) → number ≡ number_before s.width x → (number ≡ 0 → ⊥) → walk_from limit 0 (start k) (instructions_of ws) ≡ stopped number i
-  opening_stops number e f = T.open_stops limit k ws lo.b lo.ok i next lo.w s t c lo.at lo.long number (e ∙ ap (number_before s.width) (sym now)) f
+  opening_stops number e f = R.open_stops limit k ws lo.b lo.ok i next lo.w s t c lo.at lo.long number (e ∙ ap (number_before s.width) (sym now)) f
 
   -- the width of the record
   narrow : width_of x ≤ 62
@@ -123,12 +124,12 @@ module _ {limit k : ℕ} {ws : List ℕ} {i : ℕ} {o : List ℕ} {s : State} {t
   join_asks = record {
     gathered = opening;
     inside = merges_inside;
-    joined = λ h. T.joins_before limit k ws lo.b lo.ok i next lo.w s t c lo.at lo.long sources (ap (sources_of s) (sym now)) h;
+    joined = λ h. R.joins_before limit k ws lo.b lo.ok i next lo.w s t c lo.at lo.long sources (ap (sources_of s) (sym now)) h;
   }
 
   -- room for one more quantum instruction
   pub quantum_room : t.quantum + 1 < 2 ^ 64
-  quantum_room = T.quantum_room limit k ws lo.b lo.ok i next lo.w s t c lo.at lo.long
+  quantum_room = R.quantum_room limit k ws lo.b lo.ok i next lo.w s t c lo.at lo.long
 
   -- behind the join
   module _ {made : Option Joining} {u : State} {merges' : List ℕ} (jm : JoinMade s u x t.merges (Ok made) c.merges merges') where
@@ -152,8 +153,8 @@ module _ {limit k : ℕ} {ws : List ℕ} {i : ℕ} {o : List ℕ} {s : State} {t
     module _ (a z : ℕ) (active : 0 < length lo.w.order) (small : length lo.w.order ≤ 62) (same : sources ≡ (join_of a z lo.w).sources) where
       met : Represents u lo.w.order (join_of a z lo.w).components
       met =
-          let tr = T.tr limit k ws lo.b lo.ok i next lo.w s t c lo.at lo.long in
-          let few = T.few limit k ws lo.b lo.ok i next lo.w s t c lo.at lo.long in
+          let tr = R.tr limit k ws lo.b lo.ok i next lo.w s t c lo.at lo.long in
+          let few = R.few limit k ws lo.b lo.ok i next lo.w s t c lo.at lo.long in
           ⊎_elim
           (λ d. J.represents lo.w _ tr s lo.at.rep few a z active small u (subst (λ (l : List ℕ). Joined s l u) same d.1))
           (λ d. subst (λ (v : State). Represents v lo.w.order (join_of a z lo.w).components) (sym d.0)
@@ -166,7 +167,7 @@ module _ {limit k : ℕ} {ws : List ℕ} {i : ℕ} {o : List ℕ} {s : State} {t
       asks : (jn : Joining) → Some jn ≡ join_before s.size sources → JoinedFits u.place a z s.width i jn t c.steps c.sizes
       asks jn e =
           subst (λ (q : Joining). JoinedFits u.place a z s.width i q t c.steps c.sizes) (sym (join_is jn e))
-          (T.joined_fits limit k ws lo.b lo.ok i next lo.w s t c lo.at lo.long a z active small u met)
+          (R.joined_fits limit k ws lo.b lo.ok i next lo.w s t c lo.at lo.long a z active small u met)
 
     -- ---- rotations
 
@@ -187,14 +188,14 @@ module _ {limit k : ℕ} {ws : List ℕ} {i : ℕ} {o : List ℕ} {s : State} {t
           ⊎_elim
           (λ f. f)
           (λ f. absurd (let g = rotation_joins (omega arith) in let l = ap length g in
-          let h = J.some lo.w _ (T.tr limit k ws lo.b lo.ok i next lo.w s t c lo.at lo.long) s lo.at.rep (T.few limit k ws lo.b lo.ok i next lo.w s t c lo.at lo.long) a z (omega arith) rotation_small in
+          let h = J.some lo.w _ (R.tr limit k ws lo.b lo.ok i next lo.w s t c lo.at lo.long) s lo.at.rep (R.few limit k ws lo.b lo.ok i next lo.w s t c lo.at lo.long) a z (omega arith) rotation_small in
           omega arith))
           (same_or_not (length lo.w.order) 0)
         where
           rotation_joins : 0 < length lo.w.order → sources ≡ (join_of a z lo.w).sources
           rotation_joins active =
               ap (sources_before s.width (sources_at s.component s.size s.width)) told
-              ∙ T.rotation_sources limit k ws lo.b lo.ok i next lo.w s t c lo.at lo.long width a z phase angle sine cosine rotation_wide active rotation_small
+              ∙ R.rotation_sources limit k ws lo.b lo.ok i next lo.w s t c lo.at lo.long width a z phase angle sine cosine rotation_wide active rotation_small
 
       pub ignored_goes : made ≡ None → (t' : Tally) (c' : Buffers) → t' ≡ ignored_tally t → c'.steps ≡ patch (2 * i) (1 ∷ 0 ∷ []) c.steps
           → c'.merges ≡ merges' → c'.sizes ≡ c.sizes → c'.rotations ≡ c.rotations → c'.promotions ≡ c.promotions
@@ -205,7 +206,7 @@ module _ {limit k : ℕ} {ws : List ℕ} {i : ℕ} {o : List ℕ} {s : State} {t
           on (ignored_step lo.w)
           (subst (λ (a : Tally). Reached limit k (instructions_of ws) (i + 1) (ignored_step lo.w) u a c') (sym sums)
           (reached_same
-          (T.ignored_goes limit k ws lo.b lo.ok i next lo.w s t c lo.at lo.long width a z phase angle sine cosine c'.steps rotation_now rotation_wide (rotation_none none_there) steps)
+          (R.ignored_goes limit k ws lo.b lo.ok i next lo.w s t c lo.at lo.long width a z phase angle sine cosine c'.steps rotation_now rotation_wide (rotation_none none_there) steps)
           (unjoined none_there) refl (merges ∙ unmerged none_there) sizes rotations promotions measurements))
           long lo.ordered
 
@@ -226,7 +227,7 @@ module _ {limit k : ℕ} {ws : List ℕ} {i : ℕ} {o : List ℕ} {s : State} {t
         rotation_joined : sources ≡ (join_of a z lo.w).sources
         rotation_joined =
             ap (sources_before s.width (sources_at s.component s.size s.width)) told
-            ∙ T.rotation_sources limit k ws lo.b lo.ok i next lo.w s t c lo.at lo.long width a z phase angle sine cosine rotation_wide rotation_active rotation_small
+            ∙ R.rotation_sources limit k ws lo.b lo.ok i next lo.w s t c lo.at lo.long width a z phase angle sine cosine rotation_wide rotation_active rotation_small
 
         pub rotate_asks : JoinedFits u.place a z s.width i jn t c.steps c.sizes
         rotate_asks = asks a z rotation_active rotation_small rotation_joined jn made_so
@@ -235,27 +236,27 @@ module _ {limit k : ℕ} {ws : List ℕ} {i : ℕ} {o : List ℕ} {s : State} {t
         stands = met a z rotation_active rotation_small rotation_joined
 
         pub rotate_room : 21 * t.rotations + 21 ≤ length c.rotations
-        rotate_room = T.rotation_room limit k ws lo.b lo.ok i next lo.w s t c lo.at lo.long a z rotation_active rotation_small u stands
+        rotate_room = R.rotation_room limit k ws lo.b lo.ok i next lo.w s t c lo.at lo.long a z rotation_active rotation_small u stands
 
-        abbrev turned : Answer PrecomputedActivePauliRotationKernel
-        turned = rotation_answer limit u.place a z phase angle sine cosine s.width jn.size
+        abbrev rotated : Answer PrecomputedActivePauliRotationKernel
+        rotated = rotation_answer limit u.place a z phase angle sine cosine s.width jn.size
 
-        answer_same : turned ≡ rotation_answer limit u.place a z phase angle sine cosine s.width (joining_of s.size (join_of a z lo.w).sources).size
+        answer_same : rotated ≡ rotation_answer limit u.place a z phase angle sine cosine s.width (joining_of s.size (join_of a z lo.w).sources).size
         answer_same = ap (λ (q : Joining). rotation_answer limit u.place a z phase angle sine cosine s.width q.size) (join_is a z rotation_active rotation_small rotation_joined jn made_so)
 
-        pub rotate_stops : (n : ℕ) → turned ≡ refused n → walk_from limit 0 (start k) (instructions_of ws) ≡ stopped n i
+        pub rotate_stops : (n : ℕ) → rotated ≡ refused n → walk_from limit 0 (start k) (instructions_of ws) ≡ stopped n i
         rotate_stops n e =
-            T.rotation_stops limit k ws lo.b lo.ok i next lo.w s t c lo.at lo.long a z rotation_active rotation_small u stands width phase angle sine cosine rotation_now rotation_wide n
+            R.rotation_stops limit k ws lo.b lo.ok i next lo.w s t c lo.at lo.long a z rotation_active rotation_small u stands width phase angle sine cosine rotation_now rotation_wide n
             (sym answer_same ∙ e)
 
-        pub rotate_goes : (q : PrecomputedActivePauliRotationKernel) (t' : Tally) (c' : Buffers) → turned ≡ given q
+        pub rotate_goes : (q : PrecomputedActivePauliRotationKernel) (t' : Tally) (c' : Buffers) → rotated ≡ given q
             → RotationDone s.width i jn t t' c.steps c.sizes c.rotations c'.steps c'.sizes c'.rotations q
             → c'.merges ≡ merges' → c'.promotions ≡ c.promotions → c'.measurements ≡ c.measurements → SameLengths c c'
             → Looping limit k ws (i + 1) o u t' c'
         unfolding rotation_step
         rotate_goes q t' c' e done merges promotions measurements long =
             on (rotation_step lo.w (join_of a z lo.w) q)
-            (T.rotation_goes limit k ws lo.b lo.ok i next lo.w s t c lo.at lo.long a z rotation_active rotation_small u stands width phase angle sine cosine rotation_now rotation_wide q t' c'
+            (R.rotation_goes limit k ws lo.b lo.ok i next lo.w s t c lo.at lo.long a z rotation_active rotation_small u stands width phase angle sine cosine rotation_now rotation_wide q t' c'
             (sym answer_same ∙ e)
             (subst (λ (j : Joining). RotationDone s.width i j t t' c.steps c.sizes c.rotations c'.steps c'.sizes c'.rotations q) (join_is a z rotation_active rotation_small rotation_joined jn made_so) done)
             (merges ∙ jm.opened.written ∙ ap (λ (l : List ℕ). patch t.merges l c.merges) rotation_joined) promotions measurements)
@@ -278,14 +279,14 @@ module _ {limit k : ℕ} {ws : List ℕ} {i : ℕ} {o : List ℕ} {s : State} {t
       measurement_joined : sources ≡ (join_of a z lo.w).sources
       measurement_joined =
           ap (sources_before s.width (sources_at s.component s.size s.width)) told
-          ∙ T.measurement_sources limit k ws lo.b lo.ok i next lo.w s t c lo.at lo.long width a z phase pivot passed.0 passed.1 measurement_small
+          ∙ R.measurement_sources limit k ws lo.b lo.ok i next lo.w s t c lo.at lo.long width a z phase pivot passed.0 passed.1 measurement_small
 
       -- it joins something
       pub measurement_joins : made ≡ None → ⊥
       measurement_joins none =
           let l = ap length measurement_joined in
           let n = no_join s.size sources (sym none ∙ jm.opened.join) in
-          let h = J.some lo.w _ (T.tr limit k ws lo.b lo.ok i next lo.w s t c lo.at lo.long) s lo.at.rep (T.few limit k ws lo.b lo.ok i next lo.w s t c lo.at lo.long) a z passed.1 measurement_small in
+          let h = J.some lo.w _ (R.tr limit k ws lo.b lo.ok i next lo.w s t c lo.at lo.long) s lo.at.rep (R.few limit k ws lo.b lo.ok i next lo.w s t c lo.at lo.long) a z passed.1 measurement_small in
           omega arith
 
       module _ {jn : Joining} (join : made ≡ Some jn) where
@@ -299,7 +300,7 @@ module _ {limit k : ℕ} {ws : List ℕ} {i : ℕ} {o : List ℕ} {s : State} {t
         stands_so = met a z passed.1 measurement_small measurement_joined
 
         pub measure_room : 19 * t.measurements + 19 ≤ length c.measurements
-        measure_room = T.measurement_room limit k ws lo.b lo.ok i next lo.w s t c lo.at lo.long a z passed.1 measurement_small u stands_so
+        measure_room = R.measurement_room limit k ws lo.b lo.ok i next lo.w s t c lo.at lo.long a z passed.1 measurement_small u stands_so
 
         abbrev found : Answer PrecomputedActivePauliMeasurementKernel
         found = measurement_answer limit u.component u.place a z phase pivot s.width jn
@@ -309,12 +310,12 @@ module _ {limit k : ℕ} {ws : List ℕ} {i : ℕ} {o : List ℕ} {s : State} {t
 
         pub measure_stops : (n : ℕ) → found ≡ refused n → walk_from limit 0 (start k) (instructions_of ws) ≡ stopped n i
         measure_stops n e =
-            T.measurement_stops limit k ws lo.b lo.ok i next lo.w s t c lo.at lo.long a z passed.1 measurement_small u stands_so width phase pivot measurement_now passed.0 n
+            R.measurement_stops limit k ws lo.b lo.ok i next lo.w s t c lo.at lo.long a z passed.1 measurement_small u stands_so width phase pivot measurement_now passed.0 n
             (sym found_same ∙ e)
 
         pub remove_asks : (q : PrecomputedActivePauliMeasurementKernel) → found ≡ given q → BeforeRemoval u pivot
         remove_asks q e =
-            T.removal_fits limit k ws lo.b lo.ok i next lo.w s t c lo.at lo.long a z passed.1 measurement_small u stands_so width phase pivot measurement_now passed.0 q
+            R.removal_fits limit k ws lo.b lo.ok i next lo.w s t c lo.at lo.long a z passed.1 measurement_small u stands_so width phase pivot measurement_now passed.0 q
             (sym found_same ∙ e)
 
         pub measure_goes : (q : PrecomputedActivePauliMeasurementKernel) (t' : Tally) (c' : Buffers) (v : State) (o' : List ℕ) → found ≡ given q
@@ -325,7 +326,7 @@ module _ {limit k : ℕ} {ws : List ℕ} {i : ℕ} {o : List ℕ} {s : State} {t
         unfolding measurement_step
         measure_goes q t' c' v o' e done removed closed merges promotions rotations long =
             on (measurement_step lo.w (join_of a z lo.w) pivot q)
-            (T.measurement_goes limit k ws lo.b lo.ok i next lo.w s t c lo.at lo.long a z passed.1 measurement_small u stands_so width phase pivot measurement_now passed.0 q
+            (R.measurement_goes limit k ws lo.b lo.ok i next lo.w s t c lo.at lo.long a z passed.1 measurement_small u stands_so width phase pivot measurement_now passed.0 q
             (sym found_same ∙ e) v t' c' removed
             (subst (λ (j : Joining). MeasurementDone s.width i j t t' c.steps c.sizes c.measurements c'.steps c'.sizes c'.measurements q) (join_is a z passed.1 measurement_small measurement_joined jn opened_so) done)
             (merges ∙ jm.opened.written ∙ ap (λ (l : List ℕ). patch t.merges l c.merges) measurement_joined) promotions rotations)
@@ -349,12 +350,12 @@ module _ {limit k : ℕ} {ws : List ℕ} {i : ℕ} {o : List ℕ} {s : State} {t
       pub promote_asks : PromotionFits u.count s.width i t c.steps c.sizes c.promotions
       promote_asks =
           subst (λ (v : State). PromotionFits v.count s.width i t c.steps c.sizes c.promotions) (sym same_state)
-          (T.promotion_fits limit k ws lo.b lo.ok i next lo.w s t c lo.at lo.long promotion_now)
+          (R.promotion_fits limit k ws lo.b lo.ok i next lo.w s t c lo.at lo.long promotion_now)
 
       pub promoted_asks : BeforePromotion u
       promoted_asks =
           subst (λ (v : State). BeforePromotion v) (sym same_state)
-          (T.state_room limit k ws lo.b lo.ok i next lo.w s t c lo.at lo.long promotion_now)
+          (R.state_room limit k ws lo.b lo.ok i next lo.w s t c lo.at lo.long promotion_now)
 
       pub promote_goes : (t' : Tally) (c' : Buffers) (v : State) (o' : List ℕ)
           → PromotionDone u.count s.width i t t' c.steps c.sizes c.promotions c'.steps c'.sizes c'.promotions → v ≡ promoted u
@@ -364,7 +365,7 @@ module _ {limit k : ℕ} {ws : List ℕ} {i : ℕ} {o : List ℕ} {s : State} {t
       promote_goes t' c' v o' d e appended merges rotations measurements long =
           on (promotion_step lo.w)
           (reached_same
-          (T.promotion_goes limit k ws lo.b lo.ok i next lo.w s t c lo.at lo.long promotion_now t' c'
+          (R.promotion_goes limit k ws lo.b lo.ok i next lo.w s t c lo.at lo.long promotion_now t' c'
           (subst (λ (y : State). PromotionDone y.count s.width i t t' c.steps c.sizes c.promotions c'.steps c'.sizes c'.promotions) same_state d)
           (merges ∙ unmerged no-sources) rotations measurements)
           (e ∙ ap promoted same_state) refl refl refl refl refl refl)
@@ -372,7 +373,7 @@ module _ {limit k : ℕ} {ws : List ℕ} {i : ℕ} {o : List ℕ} {s : State} {t
           (subst (λ (l : List ℕ). Ordered l (lo.w.order ++ (length lo.w.components ∷ [])))
           (sym (appended ∙ ap (λ (y : State). set o y.width y.count) same_state ∙ ap (set o s.width) lo.at.rep.count))
           (ordered_promotion o lo.w.order lo.ordered
-          (let f = (T.state_room limit k ws lo.b lo.ok i next lo.w s t c lo.at lo.long promotion_now).width in omega (arith, wide)) s.width (length lo.w.components) wide))
+          (let f = (R.state_room limit k ws lo.b lo.ok i next lo.w s t c lo.at lo.long promotion_now).width in omega (arith, wide)) s.width (length lo.w.components) wide))
 
     -- ---- records that do nothing
 
@@ -386,7 +387,7 @@ module _ {limit k : ℕ} {ws : List ℕ} {i : ℕ} {o : List ℕ} {s : State} {t
           let quiet = does_nothing limit lo.w s.width (sources_at s.component s.size s.width) x not_rotation not_promotion not_measurement in
           on (no_step lo.w)
           (reached_same
-          (T.plain_goes limit k ws lo.b lo.ok i next lo.w s t c lo.at lo.long c'.steps (ap (step limit lo.w) now ∙ quiet.0) steps)
+          (R.plain_goes limit k ws lo.b lo.ok i next lo.w s t c lo.at lo.long c'.steps (ap (step limit lo.w) now ∙ quiet.0) steps)
           (unjoined quiet.1) refl (merges ∙ unmerged quiet.1) sizes rotations promotions measurements)
           long lo.ordered
 

@@ -11,7 +11,7 @@ use Rattle.state.specs.declared.State.{State}
 use Rattle.work_sums.specs.declared.Joining.{Joining}
 use Rattle.work_sums.specs.Tally.{joining_of}
 use Rattle.plan_buffers.specs.Buffers.{patch}
-use Rattle.record_steps.specs.Turns.{join_before, Opened}
+use Rattle.record_steps.specs.RecordSteps.{join_before, Opened}
 use Rattle.record_steps.proofs.Patches.{part_of_patch}
 use Rattle.walk.specs.Looping.{sources_of, Joins}
 

@@ -18,7 +18,7 @@ use Rattle.records.specs.declared.Instruction.TheVariants.{Rotation, Promotion, 
 use Rattle.plan_spec.specs.Lists.{is_in, place_of}
 use Rattle.plan_spec.specs.Walk.{Walk, Join, join_of, local_action, refuse, when_given, is_none, ignored_step, rotation_step, measurement_step, rotate, measure, step}
 use Rattle.plan_spec.proofs.Steps.{cond_yes, cond_no}
-use Rattle.record_steps.specs.Turns.{number_before}
+use Rattle.record_steps.specs.RecordSteps.{number_before}
 
 -- ---- tests
 

@@ -17,7 +17,7 @@ use Rattle.work_sums.specs.declared.Tally.{Tally}
 use Rattle.work_sums.specs.declared.Joining.{Joining}
 use Rattle.state_model.specs.Represents.{Ordered, Represents}
 use Rattle.plan_buffers.specs.Outputs.{Buffers, SameLengths}
-use Rattle.record_steps.specs.Turns.{sources_at, GatherFits, sources_before, WhereJoined, Opened}
+use Rattle.record_steps.specs.RecordSteps.{sources_at, GatherFits, sources_before, WhereJoined, Opened}
 use Rattle.walk.specs.Walking.{Begins, Tallied, Walkable}
 
 -- ---- the loop
@@ -47,7 +47,7 @@ pub record Looping (limit k : ℕ) (ws : List ℕ) (i : ℕ) (o : List ℕ) (s :
 
 -- ---- one record
 
--- where a record's turn begins, whatever the groups
+-- where a record's step begins, whatever the groups
 pub record Standing (limit : ℕ) (ws : List ℕ) (i : ℕ) (o : List ℕ) (s : State) (t : Tally) (c : List ℕ → Buffers) : Type 0 where
   pub next : i < length ws / 8
   pub k : ℕ
@@ -55,9 +55,9 @@ pub record Standing (limit : ℕ) (ws : List ℕ) (i : ℕ) (o : List ℕ) (s : 
   pub looping : Looping limit k ws i o s t (c groups)
 
 -- where it ends: one record more, or the definition's walk stops at this one
-abbrev pub TurnEnds : ℕ → ℕ → List ℕ → ℕ → Result Unit Reason → List ℕ → State → Tally → Buffers → Type 0
-TurnEnds limit k ws i (Ok done) o s t c = Looping limit k ws (i + 1) o s t c
-TurnEnds limit k ws i (Err reason) o s t c = walk_from limit 0 (start k) (instructions_of ws) ≡ stopped (number_of reason) i
+abbrev pub StepEnds : ℕ → ℕ → List ℕ → ℕ → Result Unit Reason → List ℕ → State → Tally → Buffers → Type 0
+StepEnds limit k ws i (Ok done) o s t c = Looping limit k ws (i + 1) o s t c
+StepEnds limit k ws i (Err reason) o s t c = walk_from limit 0 (start k) (instructions_of ws) ≡ stopped (number_of reason) i
 
 -- ---- its join
 

@@ -10,10 +10,10 @@ ghost use Rattle.plan_buffers.specs.Outputs.{buffers_of};
 ghost use Rattle.plan_buffers.specs.Stored.{SameOutputs};
 ghost use Rattle.plan_buffers.specs.Buffers.{patch};
 ghost use Rattle.plan_rows.specs.Steps.{kind_number};
-ghost use Rattle.record_steps.specs.Turns.{Settled, JoinedFits, rotation_answer, RotationDone, measurement_answer, MeasurementDone, PromotionFits, PromotionDone};
+ghost use Rattle.record_steps.specs.RecordSteps.{Settled, JoinedFits, rotation_answer, RotationDone, measurement_answer, MeasurementDone, PromotionFits, PromotionDone};
 ghost use Rattle.state.specs.Steps.{BeforeJoin, Joined, BeforePromotion, promoted, BeforeRemoval, Removed};
 ghost use Rattle.walk.specs.Walking.{Walkable, WalkEnds};
-ghost use Rattle.walk.specs.Looping.{Looping, Standing, TurnEnds, Joins, JoinMade, Leaves, Measured};
+ghost use Rattle.walk.specs.Looping.{Looping, Standing, StepEnds, Joins, JoinMade, Leaves, Measured};
 
 use kernels::active::Angle;
 use plan_buffers::StoredOutputs;
@@ -23,7 +23,7 @@ use refusals::{Reason, Refusal};
 use plan_rows::{Step, StepKind, put};
 use state::{State, append, close_gap, first_order};
 use work_sums::{Joining, Tally};
-use record_steps::{Pauli, Turn, measure, open, promote, rotate};
+use record_steps::{AtRecord, Pauli, measure, open, promote, rotate};
 
 /// What a finished walk leaves beside the buffers: the sums, how many components were made, and how many words the groups
 /// take.
@@ -97,29 +97,29 @@ fn put_kind(steps: &mut [u64], index: usize, kind: StepKind)
 }
 
 // Makes a rotation behind its join, or gives refusal 14.
-// Kept: a function of its own: in `turn`, the longest function, the call's nine arguments would stand a level deeper, and the
+// Kept: a function of its own: in `record_step`, the longest function, the call's nine arguments would stand a level deeper, and the
 // sums that `rotate` gives by value would take a place on its stack, under all that it calls.
 fn rotation(
     pauli: Pauli,
     angle: Angle,
     join: Joining,
-    turn: Turn,
+    here: AtRecord,
     place: &[u8; 512],
     tally: &mut Tally,
     out: &mut StoredOutputs,
 ) -> Result<(), Reason>
-    requires joined_fits { JoinedFits place.now pauli.x pauli.z turn.width turn.index join tally.old out.old.steps.now out.old.sizes.now }
+    requires joined_fits { JoinedFits place.now pauli.x pauli.z here.width here.index join tally.old out.old.steps.now out.old.sizes.now }
     requires row_room { rotation_words * tally.old.rotations + rotation_words ≤ length out.old.rotations.now }
     ensures same { SameOutputs out.old out.new }
     ensures kept { (out.new.merges.now ≡ out.old.merges.now) × (out.new.promotions.now ≡ out.old.promotions.now) × (out.new.measurements.now ≡ out.old.measurements.now) }
-    ensures settled { Settled (rotation_answer turn.limit place.now pauli.x pauli.z pauli.phase angle.value angle.sine angle.cosine turn.width join.size) result
-        (λ done. RotationDone turn.width turn.index join tally.old tally.new out.old.steps.now out.old.sizes.now out.old.rotations.now out.new.steps.now out.new.sizes.now out.new.rotations.now) }
+    ensures settled { Settled (rotation_answer here.limit place.now pauli.x pauli.z pauli.phase angle.value angle.sine angle.cosine here.width join.size) result
+        (λ done. RotationDone here.width here.index join tally.old tally.new out.old.steps.now out.old.sizes.now out.old.rotations.now out.new.steps.now out.new.sizes.now out.new.rotations.now) }
 {
     *tally = rotate(
         pauli,
         angle,
         join,
-        turn,
+        here,
         *tally,
         place,
         out.steps,
@@ -131,21 +131,21 @@ fn rotation(
 
 // Makes a promotion.
 fn promotion(
-    turn: Turn,
+    here: AtRecord,
     order: &mut [u16; 512],
     state: &mut State,
     tally: &mut Tally,
     out: &mut StoredOutputs,
 )
-    requires fits { PromotionFits state.old.count turn.width turn.index tally.old out.old.steps.now out.old.sizes.now out.old.promotions.now }
+    requires fits { PromotionFits state.old.count here.width here.index tally.old out.old.steps.now out.old.sizes.now out.old.promotions.now }
     requires room { BeforePromotion state.old }
     ensures same { SameOutputs out.old out.new }
     ensures kept { (out.new.merges.now ≡ out.old.merges.now) × (out.new.rotations.now ≡ out.old.rotations.now) × (out.new.measurements.now ≡ out.old.measurements.now) }
-    ensures done { PromotionDone state.old.count turn.width turn.index tally.old tally.new out.old.steps.now out.old.sizes.now out.old.promotions.now out.new.steps.now out.new.sizes.now out.new.promotions.now }
+    ensures done { PromotionDone state.old.count here.width here.index tally.old tally.new out.old.steps.now out.old.sizes.now out.old.promotions.now out.new.steps.now out.new.sizes.now out.new.promotions.now }
     ensures grown { (state.new ≡ promoted state.old) × (order.new ≡ set order.old state.old.width state.old.count) }
 {
     let next = state.count;
-    *tally = promote(next, turn, *tally, out.steps, out.sizes, out.promotions);
+    *tally = promote(next, here, *tally, out.steps, out.sizes, out.promotions);
     let end = state.width;
     append(order, end, next);
     promote_state(state);
@@ -156,25 +156,25 @@ fn measurement(
     pauli: Pauli,
     pivot: u64,
     join: Joining,
-    turn: Turn,
+    here: AtRecord,
     order: &mut [u16; 512],
     state: &mut State,
     tally: &mut Tally,
     out: &mut StoredOutputs,
 ) -> Result<(), Reason>
-    requires joined_fits { JoinedFits state.old.place pauli.x pauli.z turn.width turn.index join tally.old out.old.steps.now out.old.sizes.now }
+    requires joined_fits { JoinedFits state.old.place pauli.x pauli.z here.width here.index join tally.old out.old.steps.now out.old.sizes.now }
     requires row_room { measurement_words * tally.old.measurements + measurement_words ≤ length out.old.measurements.now }
-    requires leaves { Leaves (measurement_answer turn.limit state.old.component state.old.place pauli.x pauli.z pauli.phase pivot turn.width join) state.old pivot }
+    requires leaves { Leaves (measurement_answer here.limit state.old.component state.old.place pauli.x pauli.z pauli.phase pivot here.width join) state.old pivot }
     ensures same { SameOutputs out.old out.new }
     ensures kept { (out.new.merges.now ≡ out.old.merges.now) × (out.new.rotations.now ≡ out.old.rotations.now) × (out.new.promotions.now ≡ out.old.promotions.now) }
-    ensures settled { Settled (measurement_answer turn.limit state.old.component state.old.place pauli.x pauli.z pauli.phase pivot turn.width join) result
-        (λ done. Measured (MeasurementDone turn.width turn.index join tally.old tally.new out.old.steps.now out.old.sizes.now out.old.measurements.now out.new.steps.now out.new.sizes.now out.new.measurements.now) pivot order.old order.new state.old state.new) }
+    ensures settled { Settled (measurement_answer here.limit state.old.component state.old.place pauli.x pauli.z pauli.phase pivot here.width join) result
+        (λ done. Measured (MeasurementDone here.width here.index join tally.old tally.new out.old.steps.now out.old.sizes.now out.old.measurements.now out.new.steps.now out.new.sizes.now out.new.measurements.now) pivot order.old order.new state.old state.new) }
 {
     *tally = measure(
         pauli,
         pivot,
         join,
-        turn,
+        here,
         *tally,
         &state.component,
         &state.place,
@@ -192,7 +192,7 @@ fn measurement(
 // One record: its join, and its rotation, promotion or measurement; or the reason why it is refused.
 // Kept: here and above order, state and sums are three parameters: a join changes the state alone and a rotation the sums alone,
 // and with a struct their contracts would have to say that the rest is as it was.
-fn turn(
+fn record_step(
     limit: u64,
     records: &[u64],
     index: usize,
@@ -204,10 +204,10 @@ fn turn(
     requires { Standing limit records.now index order.old state.old tally.old (buffers_of out.old) }
     ensures same { SameOutputs out.old out.new }
     ensures step { (k : ℕ) (groups : List ℕ) → Looping limit k records.now index order.old state.old tally.old (buffers_of out.old groups)
-        → TurnEnds limit k records.now index result order.new state.new tally.new (buffers_of out.new groups) }
+        → StepEnds limit k records.now index result order.new state.new tally.new (buffers_of out.new groups) }
 {
     let instruction = read(records, index);
-    let turn = Turn {
+    let here = AtRecord {
         index,
         width: state.width as u64,
         limit,
@@ -230,13 +230,13 @@ fn turn(
                     sine,
                     cosine,
                 };
-                rotation(pauli, angle, join, turn, &state.place, tally, out)?;
+                rotation(pauli, angle, join, here, &state.place, tally, out)?;
             } else {
                 *tally = tally.ignored();
                 put_kind(out.steps, index, StepKind::IgnoredGlobalPhase);
             }
         }
-        Instruction::Promotion => promotion(turn, order, state, tally, out),
+        Instruction::Promotion => promotion(here, order, state, tally, out),
         Instruction::Measurement {
             width: _,
             x,
@@ -246,7 +246,7 @@ fn turn(
         } => {
             let pauli = Pauli { x, z, phase };
             let join = made.unwrap();
-            measurement(pauli, pivot, join, turn, order, state, tally, out)?;
+            measurement(pauli, pivot, join, here, order, state, tally, out)?;
         }
         _ => put_kind(out.steps, index, StepKind::None),
     }
@@ -270,7 +270,7 @@ pub fn walk(
     let mut tally = Tally::start(initial_k as u64);
     fill_ones(out.sizes, initial_k);
     for index in 0..records.len() / 8 {
-        if let Err(reason) = turn(
+        if let Err(reason) = record_step(
             limit, records, index, &mut order, &mut state, &mut tally, out,
         ) {
             return Err(reason.at(index));

@@ -1,7 +1,7 @@
 -- `record_steps::open` meets its contract. Refusal 11 is given by hand so that a wrong number is named.
 use mathlib.Core.Path.{◌≡◌}
 use borrow.Author.Tests.{ne_eqb}
-use Rattle.record_steps.specs.Turns.{number_before, sources_before}
+use Rattle.record_steps.specs.RecordSteps.{number_before, sources_before}
 use Rattle.record_steps.proofs.Patches.{patch_none}
 use Rattle.record_steps.proofs.open.Goals as goal
 

@@ -4,7 +4,7 @@ use mathlib.Core.Path.{refl, sym, subst}
 use mathlib.Core.Logic.{inl, inr}
 use native.Mathlib.Omega.{arith}
 use Rattle.state.specs.Steps.{BeforeJoin, Joined}
-use Rattle.record_steps.specs.Turns.{Opened}
+use Rattle.record_steps.specs.RecordSteps.{Opened}
 use Rattle.walk.proofs.Making.{join_fits, join_part, join_counts}
 use Rattle.walk.proofs.make_join.Goals as goal
 

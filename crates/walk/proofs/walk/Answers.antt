@@ -34,5 +34,5 @@ returns-clause-walked c =
 pub returns-in-Err-clause-walked : goal.returns-in-Err-clause-walked
 returns-in-Err-clause-walked c =
     let stops = c.in-Err.ensures.step c.args.initial_k c.args.groups.now c.loop-index.invariant.0 in
-    subst (λ (v : Walked). WalkEnds v (Err c.at.result) (buffers_of c.turn.new.out c.args.groups.now)) (sym stops)
+    subst (λ (v : Walked). WalkEnds v (Err c.at.result) (buffers_of c.record_step.new.out c.args.groups.now)) (sym stops)
     (ap (λ (r : Refusal). number_of r.reason) (sym c.at.ensures), ap (λ (r : Refusal). r.index) (sym c.at.ensures))

@@ -1,12 +1,13 @@
--- `walk::turn` meets its contract: the record's join, its rotation, promotion or measurement and what is written for it are the definition's step, by the lemmas on one
--- turn (`Looping`), whose premises are what the callees ensure.
+-- `walk::record_step` meets its contract: the record's join, its rotation, promotion or measurement and
+-- what is written for it are the definition's step, by the lemmas on one record (`Looping`), whose
+-- premises are what the callees ensure.
 use Rattle.std.proofs.Common.{rules}
 use mathlib.Core.Path.{refl}
 use native.Mathlib.Omega.{arith}
 use Rattle.refusals.proofs.Laws.{positive}
-use Rattle.walk.proofs.Turned.{turn_stops, is_there}
+use Rattle.walk.proofs.Stopping.{step_stops, is_there}
 use Rattle.walk.proofs.Looping.{join_asks, opening_stops, ignored_goes, rotate_asks, rotate_room, rotate_stops, rotate_goes, measurement_joins, measure_asks, measure_room, measure_stops, remove_asks, measure_goes, promote_asks, promoted_asks, promote_goes, plain_goes, quantum_room}
-use Rattle.walk.proofs.turn.Goals as goal
+use Rattle.walk.proofs.record_step.Goals as goal
 
 pub make_join-requires : goal.make_join-requires
 make_join-requires c = join_asks c.requires.looping c.requires.next c.read-instruction.ensures
@@ -38,12 +39,12 @@ measurement-requires-clause-leaves c = remove_asks c.requires.looping c.requires
 pub returns-in_err-made-clause-step : goal.returns-in_err-made-clause-step
 returns-in_err-made-clause-step c = λ k groups lo.
     let some = positive c.in_err-made.field-0.0 in
-    turn_stops _ _ _ _ _ _ _ _ _ c.in_err-made.field-0.0 c.from_residual.ensures
+    step_stops _ _ _ _ _ _ _ _ _ c.in_err-made.field-0.0 c.from_residual.ensures
     (opening_stops lo c.requires.next c.read-instruction.ensures _ c.in_err-made.ensures.opened.number (λ e. omega arith))
 
 pub returns-in_err-rotation-in-Rotation-clause-step : goal.returns-in_err-rotation-in-Rotation-clause-step
 returns-in_err-rotation-in-Rotation-clause-step c = λ k groups lo.
-    turn_stops _ _ _ _ _ _ _ _ _ c.in_err-rotation-in-Rotation.field-0.0 c.from_residual-in_err-rotation-in-Rotation.ensures
+    step_stops _ _ _ _ _ _ _ _ _ c.in_err-rotation-in-Rotation.field-0.0 c.from_residual-in_err-rotation-in-Rotation.ensures
     (rotate_stops lo c.requires.next c.read-instruction.ensures c.in_ok-made.ensures c.in-Rotation.is c.in-Some.is _ c.in_err-rotation-in-Rotation.ensures.settled)
 
 pub unwrap-join-requires : goal.unwrap-join-requires
@@ -52,7 +53,7 @@ unwrap-join-requires c =
 
 pub returns-in_err-measurement-in-Measurement-clause-step : goal.returns-in_err-measurement-in-Measurement-clause-step
 returns-in_err-measurement-in-Measurement-clause-step c = λ k groups lo.
-    turn_stops _ _ _ _ _ _ _ _ _ c.in_err-measurement-in-Measurement.field-0.0 c.from_residual-in_err-measurement-in-Measurement.ensures
+    step_stops _ _ _ _ _ _ _ _ _ c.in_err-measurement-in-Measurement.field-0.0 c.from_residual-in_err-measurement-in-Measurement.ensures
     (measure_stops lo c.requires.next c.read-instruction.ensures c.in_ok-made.ensures c.in-Measurement.is c.unwrap-join.ensures _ c.in_err-measurement-in-Measurement.ensures.settled)
 
 pub returns-in_ok-rotation-in-Rotation-clause-step : goal.returns-in_ok-rotation-in-Rotation-clause-step

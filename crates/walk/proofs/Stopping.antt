@@ -1,4 +1,5 @@
--- How one record's turn ends by the answers on its way: an answer that goes out with `?` is a refusal for the same reason, and what is not missing is there. By cases.
+-- How one record's step ends by the answers on its way: an answer that goes out with `?` is a refusal
+-- for the same reason, and what is not missing is there. By cases.
 use Rattle.std.specs.Prelude.{Option, Some, None, Result, IsErr, IsErrAnd, IsSome}
 use mathlib.Core.Path.{◌≡◌, refl, sym, subst}
 use mathlib.Core.List.{List}
@@ -11,11 +12,11 @@ use Rattle.plan_spec.specs.Walk.{start, walk_from, stopped}
 use Rattle.state.specs.declared.State.{State}
 use Rattle.work_sums.specs.declared.Tally.{Tally}
 use Rattle.plan_buffers.specs.Outputs.{Buffers}
-use Rattle.walk.specs.Looping.{TurnEnds}
+use Rattle.walk.specs.Looping.{StepEnds}
 
-pub turn_stops : (limit k : ℕ) (ws : List ℕ) (i : ℕ) (o : List ℕ) (s : State) (t : Tally) (c : Buffers) (r : Result Unit Reason) (reason : Reason)
-    → IsErr r × IsErrAnd r (λ e. e ≡ reason) → walk_from limit 0 (start k) (instructions_of ws) ≡ stopped (number_of reason) i → TurnEnds limit k ws i r o s t c
-turn_stops limit k ws i o s t c r reason h e = subst (λ (x : Result Unit Reason). TurnEnds limit k ws i x o s t c) (sym (err_is r reason h.1)) e
+pub step_stops : (limit k : ℕ) (ws : List ℕ) (i : ℕ) (o : List ℕ) (s : State) (t : Tally) (c : Buffers) (r : Result Unit Reason) (reason : Reason)
+    → IsErr r × IsErrAnd r (λ e. e ≡ reason) → walk_from limit 0 (start k) (instructions_of ws) ≡ stopped (number_of reason) i → StepEnds limit k ws i r o s t c
+step_stops limit k ws i o s t c r reason h e = subst (λ (x : Result Unit Reason). StepEnds limit k ws i x o s t c) (sym (err_is r reason h.1)) e
 
 pub is_there : {A : Type 0} (m : Option A) → (m ≡ None → ⊥) → IsSome m
 is_there None h = absurd (h refl)

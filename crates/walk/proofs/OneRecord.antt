@@ -1,5 +1,5 @@
--- One turn of the walk's loop: where the state, the sums and the buffers are those of the definition's walk, what the code does next is the definition's step, and
--- they are those of the walk again.
+-- One record: where the state, the sums and the buffers are those of the definition's walk, what the
+-- code does next is the definition's step, and they are those of the walk again.
 use mathlib.Core.Path.{◌≡◌, refl, sym, ap, ap₂, ◌∙◌, subst}
 use mathlib.Core.Logic.{⊎_elim}
 use mathlib.Core.Bool.{Bool, true, false, cond}
@@ -45,7 +45,7 @@ use Rattle.state_model.proofs.Sums.{live_removal, live_promotion}
 use Rattle.plan_buffers.specs.Outputs.{Buffers, SameLengths, lengths_of}
 use Rattle.walk.specs.Walking.{Begins, Tallied, Walkable}
 use Rattle.walk.specs.Looping.{Reached}
-use Rattle.record_steps.specs.Turns.{raised, sources_at, GatherFits, number_before, sources_before, WhereJoined, local_action_of, JoinedFits, rotation_answer, RotationDone, measurement_answer, MeasurementDone, PromotionFits, PromotionDone}
+use Rattle.record_steps.specs.RecordSteps.{raised, sources_at, GatherFits, number_before, sources_before, WhereJoined, local_action_of, JoinedFits, rotation_answer, RotationDone, measurement_answer, MeasurementDone, PromotionFits, PromotionDone}
 use Rattle.walk.proofs.Reaching.{few_records, tracked, width_next, made, made_next, kept, live_small, quantum_small, steps_written, rows_written, rotations_wide, measurements_wide, run_next, stops}
 use Rattle.walk.proofs.Joining as J
 use Rattle.walk.proofs.Filling.{begins_patch, begins_more, begins_set, begins_at, begins_row}
