@@ -1,2 +1,3 @@
-//! No code: specs/ says how the state's arrays stand for the definition's walk, and proofs/ that each step keeps that.
+//! No code: specs/ says how the state's arrays stand for the definition's walk, and proofs/ that
+//! each step keeps that.
 #![tactic(auto)]

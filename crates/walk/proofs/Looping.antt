@@ -30,11 +30,13 @@ use Rattle.state_model.proofs.Moving.{ordered_start, ordered_promotion, ordered_
 use Rattle.plan_buffers.specs.Outputs.{Buffers, SameLengths}
 use Rattle.walk.specs.Walking.{Begins, WalkEnds, Walkable}
 use Rattle.walk.specs.Looping.{Reached, Looping, Joins, JoinMade, sources_of, Met}
-use Rattle.record_steps.specs.RecordSteps.{sources_at, GatherFits, number_before, sources_before, WhereJoined, join_before, JoinedFits, rotation_answer, RotationDone, measurement_answer, MeasurementDone, PromotionFits, PromotionDone}
+use Rattle.record_steps.specs.RecordSteps.{sources_at, GatherFits, number_before, sources_before, WhereJoined, join_before, progress_of, JoinedFits, rotation_answer, RotationDone, measurement_answer, MeasurementDone, PromotionFits, PromotionDone}
+use Rattle.record_steps.specs.declared.AtRecord.{AtRecord}
 use Rattle.walk.proofs.Reaching.{width_next}
 use Rattle.walk.proofs.Joining as J
 use Rattle.walk.proofs.Stepping.{rotation_width, measurement_width}
 use Rattle.walk.proofs.OneRecord as R
+use Rattle.walk.proofs.OneRecord.{pauli_of, angle_of, at_record}
 use Rattle.walk.proofs.Ending as E
 use Rattle.walk.proofs.Ending.{reached_start}
 use Rattle.record_steps.proofs.Patches.{patch_none}
@@ -93,6 +95,9 @@ module _ {limit k : ℕ} {ws : List ℕ} {i : ℕ} {o : List ℕ} {s : State} {t
     (read : x ≡ instruction_of (record_at ws i)) where
   now : get_or (instructions_of ws) i DormantBranch ≡ x
   now = instruction_at ws i DormantBranch next ∙ sym read
+
+  abbrev here : AtRecord
+  here = at_record limit i s.width
 
   abbrev sources : List ℕ
   sources = sources_of s x
@@ -164,10 +169,10 @@ module _ {limit k : ℕ} {ws : List ℕ} {i : ℕ} {o : List ℕ} {s : State} {t
       join_is : (jn : Joining) → Some jn ≡ join_before s.size sources → jn ≡ joining_of s.size (join_of a z lo.w).sources
       join_is jn e = (some_join s.size sources jn e).0 ∙ ap (joining_of s.size) same
 
-      asks : (jn : Joining) → Some jn ≡ join_before s.size sources → JoinedFits u.place a z s.width i jn t c.steps c.sizes
-      asks jn e =
-          subst (λ (q : Joining). JoinedFits u.place a z s.width i q t c.steps c.sizes) (sym (join_is jn e))
-          (R.joined_fits limit k ws lo.b lo.ok i next lo.w s t c lo.at lo.long a z active small u met)
+      asks : (phase : ℕ) (jn : Joining) → Some jn ≡ join_before s.size sources → JoinedFits u.place (pauli_of a z phase) here jn t c.steps c.sizes
+      asks phase jn e =
+          subst (λ (q : Joining). JoinedFits u.place (pauli_of a z phase) here q t c.steps c.sizes) (sym (join_is jn e))
+          (R.joined_fits limit k ws lo.b lo.ok i next lo.w s t c lo.at lo.long a z active small u met phase)
 
     -- ---- rotations
 
@@ -229,8 +234,8 @@ module _ {limit k : ℕ} {ws : List ℕ} {i : ℕ} {o : List ℕ} {s : State} {t
             ap (sources_before s.width (sources_at s.component s.size s.width)) told
             ∙ R.rotation_sources limit k ws lo.b lo.ok i next lo.w s t c lo.at lo.long width a z phase angle sine cosine rotation_wide rotation_active rotation_small
 
-        pub rotate_asks : JoinedFits u.place a z s.width i jn t c.steps c.sizes
-        rotate_asks = asks a z rotation_active rotation_small rotation_joined jn made_so
+        pub rotate_asks : JoinedFits u.place (pauli_of a z phase) here jn t c.steps c.sizes
+        rotate_asks = asks a z rotation_active rotation_small rotation_joined phase jn made_so
 
         stands : Represents u lo.w.order (join_of a z lo.w).components
         stands = met a z rotation_active rotation_small rotation_joined
@@ -239,10 +244,10 @@ module _ {limit k : ℕ} {ws : List ℕ} {i : ℕ} {o : List ℕ} {s : State} {t
         rotate_room = R.rotation_room limit k ws lo.b lo.ok i next lo.w s t c lo.at lo.long a z rotation_active rotation_small u stands
 
         abbrev rotated : Answer PrecomputedActivePauliRotationKernel
-        rotated = rotation_answer limit u.place a z phase angle sine cosine s.width jn.size
+        rotated = rotation_answer u.place (pauli_of a z phase) (angle_of angle sine cosine) here jn.size
 
-        answer_same : rotated ≡ rotation_answer limit u.place a z phase angle sine cosine s.width (joining_of s.size (join_of a z lo.w).sources).size
-        answer_same = ap (λ (q : Joining). rotation_answer limit u.place a z phase angle sine cosine s.width q.size) (join_is a z rotation_active rotation_small rotation_joined jn made_so)
+        answer_same : rotated ≡ rotation_answer u.place (pauli_of a z phase) (angle_of angle sine cosine) here (joining_of s.size (join_of a z lo.w).sources).size
+        answer_same = ap (λ (q : Joining). rotation_answer u.place (pauli_of a z phase) (angle_of angle sine cosine) here q.size) (join_is a z rotation_active rotation_small rotation_joined jn made_so)
 
         pub rotate_stops : (n : ℕ) → rotated ≡ refused n → walk_from limit 0 (start k) (instructions_of ws) ≡ stopped n i
         rotate_stops n e =
@@ -250,7 +255,7 @@ module _ {limit k : ℕ} {ws : List ℕ} {i : ℕ} {o : List ℕ} {s : State} {t
             (sym answer_same ∙ e)
 
         pub rotate_goes : (q : PrecomputedActivePauliRotationKernel) (t' : Tally) (c' : Buffers) → rotated ≡ given q
-            → RotationDone s.width i jn t t' c.steps c.sizes c.rotations c'.steps c'.sizes c'.rotations q
+            → RotationDone here jn (progress_of t c.steps c.sizes c.rotations) (progress_of t' c'.steps c'.sizes c'.rotations) q
             → c'.merges ≡ merges' → c'.promotions ≡ c.promotions → c'.measurements ≡ c.measurements → SameLengths c c'
             → Looping limit k ws (i + 1) o u t' c'
         unfolding rotation_step
@@ -258,7 +263,7 @@ module _ {limit k : ℕ} {ws : List ℕ} {i : ℕ} {o : List ℕ} {s : State} {t
             on (rotation_step lo.w (join_of a z lo.w) q)
             (R.rotation_goes limit k ws lo.b lo.ok i next lo.w s t c lo.at lo.long a z rotation_active rotation_small u stands width phase angle sine cosine rotation_now rotation_wide q t' c'
             (sym answer_same ∙ e)
-            (subst (λ (j : Joining). RotationDone s.width i j t t' c.steps c.sizes c.rotations c'.steps c'.sizes c'.rotations q) (join_is a z rotation_active rotation_small rotation_joined jn made_so) done)
+            (subst (λ (j : Joining). RotationDone here j (progress_of t c.steps c.sizes c.rotations) (progress_of t' c'.steps c'.sizes c'.rotations) q) (join_is a z rotation_active rotation_small rotation_joined jn made_so) done)
             (merges ∙ jm.opened.written ∙ ap (λ (l : List ℕ). patch t.merges l c.merges) rotation_joined) promotions measurements)
             long lo.ordered
 
@@ -293,8 +298,8 @@ module _ {limit k : ℕ} {ws : List ℕ} {i : ℕ} {o : List ℕ} {s : State} {t
         opened_so : Some jn ≡ join_before s.size sources
         opened_so = sym join ∙ jm.opened.join
 
-        pub measure_asks : JoinedFits u.place a z s.width i jn t c.steps c.sizes
-        measure_asks = asks a z passed.1 measurement_small measurement_joined jn opened_so
+        pub measure_asks : JoinedFits u.place (pauli_of a z phase) here jn t c.steps c.sizes
+        measure_asks = asks a z passed.1 measurement_small measurement_joined phase jn opened_so
 
         stands_so : Represents u lo.w.order (join_of a z lo.w).components
         stands_so = met a z passed.1 measurement_small measurement_joined
@@ -303,10 +308,10 @@ module _ {limit k : ℕ} {ws : List ℕ} {i : ℕ} {o : List ℕ} {s : State} {t
         measure_room = R.measurement_room limit k ws lo.b lo.ok i next lo.w s t c lo.at lo.long a z passed.1 measurement_small u stands_so
 
         abbrev found : Answer PrecomputedActivePauliMeasurementKernel
-        found = measurement_answer limit u.component u.place a z phase pivot s.width jn
+        found = measurement_answer u.component u.place (pauli_of a z phase) pivot here jn
 
-        found_same : found ≡ measurement_answer limit u.component u.place a z phase pivot s.width (joining_of s.size (join_of a z lo.w).sources)
-        found_same = ap (measurement_answer limit u.component u.place a z phase pivot s.width) (join_is a z passed.1 measurement_small measurement_joined jn opened_so)
+        found_same : found ≡ measurement_answer u.component u.place (pauli_of a z phase) pivot here (joining_of s.size (join_of a z lo.w).sources)
+        found_same = ap (measurement_answer u.component u.place (pauli_of a z phase) pivot here) (join_is a z passed.1 measurement_small measurement_joined jn opened_so)
 
         pub measure_stops : (n : ℕ) → found ≡ refused n → walk_from limit 0 (start k) (instructions_of ws) ≡ stopped n i
         measure_stops n e =
@@ -319,7 +324,7 @@ module _ {limit k : ℕ} {ws : List ℕ} {i : ℕ} {o : List ℕ} {s : State} {t
             (sym found_same ∙ e)
 
         pub measure_goes : (q : PrecomputedActivePauliMeasurementKernel) (t' : Tally) (c' : Buffers) (v : State) (o' : List ℕ) → found ≡ given q
-            → MeasurementDone s.width i jn t t' c.steps c.sizes c.measurements c'.steps c'.sizes c'.measurements q
+            → MeasurementDone here jn (progress_of t c.steps c.sizes c.measurements) (progress_of t' c'.steps c'.sizes c'.measurements) q
             → Removed u pivot v → Closed pivot v.width o o'
             → c'.merges ≡ merges' → c'.promotions ≡ c.promotions → c'.rotations ≡ c.rotations → SameLengths c c'
             → Looping limit k ws (i + 1) o' v t' c'
@@ -328,7 +333,7 @@ module _ {limit k : ℕ} {ws : List ℕ} {i : ℕ} {o : List ℕ} {s : State} {t
             on (measurement_step lo.w (join_of a z lo.w) pivot q)
             (R.measurement_goes limit k ws lo.b lo.ok i next lo.w s t c lo.at lo.long a z passed.1 measurement_small u stands_so width phase pivot measurement_now passed.0 q
             (sym found_same ∙ e) v t' c' removed
-            (subst (λ (j : Joining). MeasurementDone s.width i j t t' c.steps c.sizes c.measurements c'.steps c'.sizes c'.measurements q) (join_is a z passed.1 measurement_small measurement_joined jn opened_so) done)
+            (subst (λ (j : Joining). MeasurementDone here j (progress_of t c.steps c.sizes c.measurements) (progress_of t' c'.steps c'.sizes c'.measurements) q) (join_is a z passed.1 measurement_small measurement_joined jn opened_so) done)
             (merges ∙ jm.opened.written ∙ ap (λ (l : List ℕ). patch t.merges l c.merges) measurement_joined) promotions rotations)
             long
             (let w = stands_so.width in let active = (remove_asks q e).active in let fewer = removed.width in
@@ -347,9 +352,9 @@ module _ {limit k : ℕ} {ws : List ℕ} {i : ℕ} {o : List ℕ} {s : State} {t
       same_state : u ≡ s
       same_state = unjoined no-sources
 
-      pub promote_asks : PromotionFits u.count s.width i t c.steps c.sizes c.promotions
+      pub promote_asks : PromotionFits u.count here (progress_of t c.steps c.sizes c.promotions)
       promote_asks =
-          subst (λ (v : State). PromotionFits v.count s.width i t c.steps c.sizes c.promotions) (sym same_state)
+          subst (λ (v : State). PromotionFits v.count here (progress_of t c.steps c.sizes c.promotions)) (sym same_state)
           (R.promotion_fits limit k ws lo.b lo.ok i next lo.w s t c lo.at lo.long promotion_now)
 
       pub promoted_asks : BeforePromotion u
@@ -358,7 +363,7 @@ module _ {limit k : ℕ} {ws : List ℕ} {i : ℕ} {o : List ℕ} {s : State} {t
           (R.state_room limit k ws lo.b lo.ok i next lo.w s t c lo.at lo.long promotion_now)
 
       pub promote_goes : (t' : Tally) (c' : Buffers) (v : State) (o' : List ℕ)
-          → PromotionDone u.count s.width i t t' c.steps c.sizes c.promotions c'.steps c'.sizes c'.promotions → v ≡ promoted u
+          → PromotionDone u.count here (progress_of t c.steps c.sizes c.promotions) (progress_of t' c'.steps c'.sizes c'.promotions) → v ≡ promoted u
           → o' ≡ set o u.width u.count → c'.merges ≡ merges' → c'.rotations ≡ c.rotations → c'.measurements ≡ c.measurements → SameLengths c c'
           → Looping limit k ws (i + 1) o' v t' c'
       unfolding promotion_step
@@ -366,7 +371,7 @@ module _ {limit k : ℕ} {ws : List ℕ} {i : ℕ} {o : List ℕ} {s : State} {t
           on (promotion_step lo.w)
           (reached_same
           (R.promotion_goes limit k ws lo.b lo.ok i next lo.w s t c lo.at lo.long promotion_now t' c'
-          (subst (λ (y : State). PromotionDone y.count s.width i t t' c.steps c.sizes c.promotions c'.steps c'.sizes c'.promotions) same_state d)
+          (subst (λ (y : State). PromotionDone y.count here (progress_of t c.steps c.sizes c.promotions) (progress_of t' c'.steps c'.sizes c'.promotions)) same_state d)
           (merges ∙ unmerged no-sources) rotations measurements)
           (e ∙ ap promoted same_state) refl refl refl refl refl refl)
           long

@@ -16,6 +16,7 @@ use borrow.Author.Tests.{eq-eqb, ne_eqb, le-leb, lt-leb, leb-false, eqb-true, eq
 use Rattle.kernels.specs.Bits.{exp2}
 use Rattle.refusals.specs.Answer.{Answer, given, refused}
 use Rattle.kernels.specs.Active.{action, rotation, measurement}
+use Rattle.kernels.specs.declared.active.Angle.{Angle}
 use Rattle.kernels.specs.declared.active.PrecomputedActivePauliRotationKernel.{PrecomputedActivePauliRotationKernel}
 use Rattle.kernels.specs.declared.active.PrecomputedActivePauliMeasurementKernel.{PrecomputedActivePauliMeasurementKernel}
 use Rattle.records.specs.Record.{instructions_of}
@@ -45,11 +46,23 @@ use Rattle.state_model.proofs.Sums.{live_removal, live_promotion}
 use Rattle.plan_buffers.specs.Outputs.{Buffers, SameLengths, lengths_of}
 use Rattle.walk.specs.Walking.{Begins, Tallied, Walkable}
 use Rattle.walk.specs.Looping.{Reached}
-use Rattle.record_steps.specs.RecordSteps.{raised, sources_at, GatherFits, number_before, sources_before, WhereJoined, local_action_of, JoinedFits, rotation_answer, RotationDone, measurement_answer, MeasurementDone, PromotionFits, PromotionDone}
+use Rattle.record_steps.specs.RecordSteps.{raised, sources_at, GatherFits, number_before, sources_before, WhereJoined, progress_of, local_action_of, JoinedFits, rotation_answer, RotationDone, measurement_answer, MeasurementDone, PromotionFits, PromotionDone}
+use Rattle.record_steps.specs.declared.Pauli.{Pauli}
+use Rattle.record_steps.specs.declared.AtRecord.{AtRecord}
 use Rattle.walk.proofs.Reaching.{few_records, tracked, width_next, made, made_next, kept, live_small, quantum_small, steps_written, rows_written, rotations_wide, measurements_wide, run_next, stops}
 use Rattle.walk.proofs.Joining as J
 use Rattle.walk.proofs.Filling.{begins_patch, begins_more, begins_set, begins_at, begins_row}
 use Rattle.walk.proofs.Stepping.{refused_before, ignores, rotates, measures}
+
+-- a record's Pauli, its angle, and where it stands
+abbrev pub pauli_of : ℕ → ℕ → ℕ → Pauli
+pauli_of x z phase = record { x = x; z = z; phase = phase }
+
+abbrev pub angle_of : Float → Float → Float → Angle
+angle_of angle sine cosine = record { value = angle; sine = sine; cosine = cosine }
+
+abbrev pub at_record : ℕ → ℕ → ℕ → AtRecord
+at_record limit i width = record { index = i; width = width; limit = limit }
 
 -- an answer with a kernel has passed a test that refuses
 past_refusal : {K : Type 0} (t : Bool) (n : ℕ) (rest : Answer K) (q : K) → cond t (refused n) rest ≡ given q → (t ≡ false) × (rest ≡ given q)
@@ -74,6 +87,9 @@ module _ (limit k : ℕ) (ws : List ℕ) (b : Buffers) (ok : Walkable k ws b) (i
 
   no_wider : t.widest ≡ max w.whole.widest (length w.order)
   no_wider = let m = at.sums.widest in let h = within in omega arith
+
+  abbrev here : AtRecord
+  here = at_record limit i s.width
 
   abbrev now : Instruction
   now = get_or (instructions_of ws) i DormantBranch
@@ -213,16 +229,16 @@ module _ (limit k : ℕ) (ws : List ℕ) (b : Buffers) (ok : Walkable k ws b) (i
       z_mask_is : local_of (z % 2 ^ s.width) u.place ≡ local_mask z w.order j.members
       z_mask_is = ap (λ (n : ℕ). local_of (z % 2 ^ n) u.place) at.rep.width ∙ J.z_local w roll tr s at.rep few x z active narrow u to
 
-      local_same : (phase : ℕ) → local_action_of u.place x z phase s.width join.size ≡ local_action x z phase w j
+      local_same : (phase : ℕ) → local_action_of u.place (pauli_of x z phase) s.width join.size ≡ local_action x z phase w j
       local_same phase =
-          ap (λ (n : ℕ). local_action_of u.place x z phase s.width n) join_size
+          ap (λ (n : ℕ). local_action_of u.place (pauli_of x z phase) s.width n) join_size
           ∙ ap₂ (λ (m n : ℕ). action (length j.members) m n phase) x_mask_is z_mask_is
 
       longest_same : length w.longest ≡ length w.components
       longest_same = tr.longest_same
 
-      pub joined_fits : JoinedFits u.place x z s.width i join t c.steps c.sizes
-      joined_fits = record {
+      pub joined_fits : (phase : ℕ) → JoinedFits u.place (pauli_of x z phase) here join t c.steps c.sizes
+      joined_fits phase = record {
         narrow = let e = at.rep.width in omega arith;
         x_fits = let e = x_mask_is in let f = J.mask_fits w roll tr s at.rep few x z active narrow u to x in omega arith;
         z_fits = let e = z_mask_is in let f = J.mask_fits w roll tr s at.rep few x z active narrow u to z in omega arith;
@@ -266,18 +282,18 @@ module _ (limit k : ℕ) (ws : List ℕ) (b : Buffers) (ok : Walkable k ws b) (i
       rotation_room = let e = room.rotations in let l = long.rotations in let r = rows in let m = at.sums.rotations in omega arith
 
       module _ (width phase : ℕ) (angle sine cosine : Float) (is_now : now ≡ Rotation width x z phase angle sine cosine) (wide : width ≡ length w.order) where
-        rotation_same : rotation_answer limit u.place x z phase angle sine cosine s.width join.size ≡ rotation limit (local_action x z phase w j) phase angle sine cosine
+        rotation_same : rotation_answer u.place (pauli_of x z phase) (angle_of angle sine cosine) here join.size ≡ rotation limit (local_action x z phase w j) phase angle sine cosine
         rotation_same = ap (λ a. rotation limit a phase angle sine cosine) (local_same phase)
 
-        pub rotation_stops : (n : ℕ) → rotation_answer limit u.place x z phase angle sine cosine s.width join.size ≡ refused n
+        pub rotation_stops : (n : ℕ) → rotation_answer u.place (pauli_of x z phase) (angle_of angle sine cosine) here join.size ≡ refused n
             → walk_from limit 0 (start k) (instructions_of ws) ≡ stopped n i
         rotation_stops n e =
             stops limit k ws b ok i upto w s t c at next (Rotation width x z phase angle sine cosine) n is_now
             (rotates limit w width x z phase angle sine cosine wide active ∙ ap (λ a. when_given a (λ q. given (rotation_step w j q))) (sym rotation_same ∙ e))
 
         pub rotation_goes : (q : PrecomputedActivePauliRotationKernel) (t' : Tally) (c' : Buffers)
-            → rotation_answer limit u.place x z phase angle sine cosine s.width join.size ≡ given q
-            → RotationDone s.width i join t t' c.steps c.sizes c.rotations c'.steps c'.sizes c'.rotations q
+            → rotation_answer u.place (pauli_of x z phase) (angle_of angle sine cosine) here join.size ≡ given q
+            → RotationDone here join (progress_of t c.steps c.sizes c.rotations) (progress_of t' c'.steps c'.sizes c'.rotations) q
             → c'.merges ≡ patch t.merges j.sources c.merges → c'.promotions ≡ c.promotions → c'.measurements ≡ c.measurements
             → Reached limit k (instructions_of ws) (i + 1) (rotation_step w j q) u t' c'
         unfolding rotation_step rotated_tally joined_tally
@@ -326,7 +342,7 @@ module _ (limit k : ℕ) (ws : List ℕ) (b : Buffers) (ok : Walkable k ws b) (i
 
       module _ (width phase pivot : ℕ) (is_now : now ≡ Measurement width x z phase pivot) (wide : width ≡ length w.order) where
         abbrev answer : Answer PrecomputedActivePauliMeasurementKernel
-        answer = measurement_answer limit u.component u.place x z phase pivot s.width join
+        answer = measurement_answer u.component u.place (pauli_of x z phase) pivot here join
 
         -- the definition's answer in the same tests
         abbrev tested : Answer PrecomputedActivePauliMeasurementKernel
@@ -338,7 +354,7 @@ module _ (limit k : ℕ) (ws : List ℕ) (b : Buffers) (ok : Walkable k ws b) (i
         tested_same : answer ≡ tested
         tested_same =
             ap₂ (λ (n d : ℕ). cond (leb limit join.size) (refused 14) (cond (leb n pivot) (refused 15)
-            (cond (eqb (get_or u.component pivot 0) d) (measurement limit (local_action_of u.place x z phase s.width join.size) phase (get_or u.place pivot 0)) (refused 16))))
+            (cond (eqb (get_or u.component pivot 0) d) (measurement limit (local_action_of u.place (pauli_of x z phase) s.width join.size) phase (get_or u.place pivot 0)) (refused 16))))
             at.rep.width join_target
             ∙ ap (λ a. cond (leb limit join.size) (refused 14) (cond (leb (length w.order) pivot) (refused 15)
             (cond (eqb (get_or u.component pivot 0) j.component) (measurement limit a phase (get_or u.place pivot 0)) (refused 16)))) (local_same phase)
@@ -431,7 +447,7 @@ module _ (limit k : ℕ) (ws : List ℕ) (b : Buffers) (ok : Walkable k ws b) (i
               let p = join_peak_is x z w in omega arith
 
           pub measurement_goes : (v : State) (t' : Tally) (c' : Buffers) → Removed u pivot v
-              → MeasurementDone s.width i join t t' c.steps c.sizes c.measurements c'.steps c'.sizes c'.measurements q
+              → MeasurementDone here join (progress_of t c.steps c.sizes c.measurements) (progress_of t' c'.steps c'.sizes c'.measurements) q
               → c'.merges ≡ patch t.merges j.sources c.merges → c'.promotions ≡ c.promotions → c'.rotations ≡ c.rotations
               → Reached limit k (instructions_of ws) (i + 1) (measurement_step w j pivot q) v t' c'
           unfolding measurement_step measured_tally joined_tally
@@ -573,7 +589,7 @@ module _ (limit k : ℕ) (ws : List ℕ) (b : Buffers) (ok : Walkable k ws b) (i
       count = let e = at.rep.count in let f = fewer in omega arith;
     }
 
-    pub promotion_fits : PromotionFits s.count s.width i t c.steps c.sizes c.promotions
+    pub promotion_fits : PromotionFits s.count here (progress_of t c.steps c.sizes c.promotions)
     promotion_fits = record {
       narrow = let e = at.rep.width in let f = active_fewer in omega arith;
       live = let e = at.sums.live in let l = live in omega arith;
@@ -584,7 +600,7 @@ module _ (limit k : ℕ) (ws : List ℕ) (b : Buffers) (ok : Walkable k ws b) (i
     }
 
     pub promotion_goes : (t' : Tally) (c' : Buffers)
-        → PromotionDone s.count s.width i t t' c.steps c.sizes c.promotions c'.steps c'.sizes c'.promotions
+        → PromotionDone s.count here (progress_of t c.steps c.sizes c.promotions) (progress_of t' c'.steps c'.sizes c'.promotions)
         → c'.merges ≡ c.merges → c'.rotations ≡ c.rotations → c'.measurements ≡ c.measurements
         → Reached limit k (instructions_of ws) (i + 1) (promotion_step w) (promoted s) t' c'
     unfolding promotion_step promoted_tally step
@@ -673,22 +689,22 @@ module _ (limit k : ℕ) (ws : List ℕ) (b : Buffers) (ok : Walkable k ws b) (i
   unfolding sources_before
   joins_before ss e more = subst (BeforeJoin s) (sym e) (go now (width_next limit k ws b ok i upto w s t c at next) (let l = ap length e in omega arith))
     where
-      here : (width x z : ℕ) → width ≤ 62 → (t u : Bool) → eqb width s.width ≡ t → eqb s.width 0 ≡ u
+      of_masks : (width x z : ℕ) → width ≤ 62 → (t u : Bool) → eqb width s.width ≡ t → eqb s.width 0 ≡ u
           → 1 < length (cond t (cond u [] (sources_at s.component s.size s.width x z)) [])
           → BeforeJoin s (cond t (cond u [] (sources_at s.component s.size s.width x z)) [])
-      here width x z narrow true true e f h = absurd (omega arith)
-      here width x z narrow true false e f h =
+      of_masks width x z narrow true true e f h = absurd (omega arith)
+      of_masks width x z narrow true false e f h =
           let l = at.rep.width in
           let a = eqb-true width s.width e in
           let z' = eqb-false s.width 0 f in
           let active : 0 < length w.order = omega (arith, z') in
           let small' : length w.order ≤ 62 = omega arith in
           subst (BeforeJoin s) (sym (sources_written x z active small')) (joins_fit x z active small')
-      here width x z narrow false u e f h = absurd (omega arith)
+      of_masks width x z narrow false u e f h = absurd (omega arith)
 
       go : (x : Instruction) → width_of x ≤ 62 → 1 < length (sources_now x) → BeforeJoin s (sources_now x)
-      go (Rotation width x z phase angle sine cosine) n h = here width x z n (eqb width s.width) (eqb s.width 0) refl refl h
-      go (Measurement width x z phase pivot) n h = here width x z n (eqb width s.width) (eqb s.width 0) refl refl h
+      go (Rotation width x z phase angle sine cosine) n h = of_masks width x z n (eqb width s.width) (eqb s.width 0) refl refl h
+      go (Measurement width x z phase pivot) n h = of_masks width x z n (eqb width s.width) (eqb s.width 0) refl refl h
       go Promotion n h = absurd (omega arith)
       go RecordMeasurement n h = absurd (omega arith)
       go RecordDetector n h = absurd (omega arith)

@@ -1,4 +1,5 @@
--- What the contract of `walk` says: it stops where the definition's walk stops, or leaves in front of each buffer what the definition's walk has written.
+-- What the contract of `walk` says: it stops where the definition's walk stops, or leaves in
+-- front of each buffer what the definition's walk has written.
 use Rattle.std.specs.Prelude.{ℕ, ◌/◌, ◌%◌, ◌^◌, ◌≤◌, ◌≡◌, List, false, length, take, Result, Ok, Err}
 use Rattle.refusals.specs.Numbers.{number_of}
 use Rattle.refusals.specs.declared.Refusal.{Refusal}
@@ -43,7 +44,8 @@ pub record Ended (w : Walk) (s : Summary) (b : Buffers) : Type 0 where
   pub measurements : Begins (concat w.written.measurements) b.measurements
   pub groups : Begins (groups_of w.components) b.groups
 
--- the code's answer goes with the definition's: a refusal with the same number and index, or a state whose words were written
+-- the code's answer goes with the definition's: a refusal with the same number and index, or a
+-- state whose words were written
 abbrev pub WalkEnds : Walked → Result Summary Refusal → Buffers → Type 0
 WalkEnds (finished w) (Ok s) b = Ended w s b
 WalkEnds (finished w) (Err refusal) b = ⊥

@@ -1,5 +1,5 @@
-//! The walk over the records. The state is a local of the walk's function, and is changed by nothing but its own steps; the active
-//! order stands beside it and is changed in place.
+//! The walk over the records. The state is a local of the walk's function, and is changed by
+//! nothing but its own steps; the active order stands beside it and is changed in place.
 #![tactic(auto)]
 
 ghost use Rattle.std.specs.Prelude.{◌≡◌, ◌+◌, ◌*◌, ◌<◌, ◌≤◌, ℕ, List, [], ◌∷◌, length, set};
@@ -10,23 +10,23 @@ ghost use Rattle.plan_buffers.specs.Outputs.{buffers_of};
 ghost use Rattle.plan_buffers.specs.Stored.{SameOutputs};
 ghost use Rattle.plan_buffers.specs.Buffers.{patch};
 ghost use Rattle.plan_rows.specs.Steps.{kind_number};
-ghost use Rattle.record_steps.specs.RecordSteps.{Settled, JoinedFits, rotation_answer, RotationDone, measurement_answer, MeasurementDone, PromotionFits, PromotionDone};
+ghost use Rattle.record_steps.specs.RecordSteps.{Settled, JoinedFits, rotation_answer, RotationDone, MeasurementDone, PromotionFits, PromotionDone};
 ghost use Rattle.state.specs.Steps.{BeforeJoin, Joined, BeforePromotion, promoted, BeforeRemoval, Removed};
 ghost use Rattle.walk.specs.Walking.{Walkable, WalkEnds};
-ghost use Rattle.walk.specs.Looping.{Looping, Standing, StepEnds, Joins, JoinMade, Leaves, Measured};
+ghost use Rattle.walk.specs.Looping.{Looping, Standing, StepEnds, Joins, JoinMade, rotation_progress, promotion_progress, measurement_progress, answer_in, Leaves, Measured};
 
 use kernels::active::Angle;
 use plan_buffers::StoredOutputs;
 use plan_buffers::buffers::{fill_ones, write_counts, write_members};
+use plan_rows::{Step, StepKind, put};
+use record_steps::{AtRecord, Pauli, measure, open, promote, rotate};
 use records::{Instruction, read};
 use refusals::{Reason, Refusal};
-use plan_rows::{Step, StepKind, put};
 use state::{State, append, close_gap, first_order};
 use work_sums::{Joining, Tally};
-use record_steps::{AtRecord, Pauli, measure, open, promote, rotate};
 
-/// What a finished walk leaves beside the buffers: the sums, how many components were made, and how many words the groups
-/// take.
+/// What a finished walk leaves beside the buffers: the sums, how many components were made, and
+/// how many words the groups take.
 #[derive(Clone, Copy, Debug, PartialEq)]
 pub struct Summary {
     pub tally: Tally,
@@ -34,8 +34,9 @@ pub struct Summary {
     pub groups: usize,
 }
 
-// Joins the sources in place. The state's steps take it and give it back by value; each stands in a function of its own, so that
-// the copies of one lie where those of the others do, and the stack of the walk has them once.
+// Joins the sources in place. The state's steps take it and give it back by value; each stands in
+// a function of its own, so that the copies of one lie where those of the others do, and the
+// stack of the walk has them once.
 fn join_state(state: &mut State, sources: &[u64])
     requires { BeforeJoin state.old sources.now }
     ensures { Joined state.old sources.now state.new }
@@ -59,7 +60,8 @@ fn remove_state(state: &mut State, pivot: usize)
     *state = state.remove(pivot);
 }
 
-// Makes the join that a record makes, or gives refusal 11, 12 or 13: its sources stand in the merge list from the offset on.
+// Makes the join that a record makes, or gives refusal 11, 12 or 13: its sources stand in the
+// merge list from the offset on.
 fn make_join(
     instruction: Instruction,
     offset: usize,
@@ -97,8 +99,9 @@ fn put_kind(steps: &mut [u64], index: usize, kind: StepKind)
 }
 
 // Makes a rotation behind its join, or gives refusal 14.
-// Kept: a function of its own: in `record_step`, the longest function, the call's nine arguments would stand a level deeper, and the
-// sums that `rotate` gives by value would take a place on its stack, under all that it calls.
+// Kept: a function of its own: in `record_step`, the longest function, the call's nine arguments
+// would stand a level deeper, and the sums that `rotate` gives by value would take a place on its
+// stack, under all that it calls.
 fn rotation(
     pauli: Pauli,
     angle: Angle,
@@ -108,12 +111,18 @@ fn rotation(
     tally: &mut Tally,
     out: &mut StoredOutputs,
 ) -> Result<(), Reason>
-    requires joined_fits { JoinedFits place.now pauli.x pauli.z here.width here.index join tally.old out.old.steps.now out.old.sizes.now }
-    requires row_room { rotation_words * tally.old.rotations + rotation_words ≤ length out.old.rotations.now }
+    requires joined_fits { JoinedFits place.now pauli here join
+        tally.old out.old.steps.now out.old.sizes.now }
+    requires row_room { rotation_words * tally.old.rotations + rotation_words
+        ≤ length out.old.rotations.now }
     ensures same { SameOutputs out.old out.new }
-    ensures kept { (out.new.merges.now ≡ out.old.merges.now) × (out.new.promotions.now ≡ out.old.promotions.now) × (out.new.measurements.now ≡ out.old.measurements.now) }
-    ensures settled { Settled (rotation_answer here.limit place.now pauli.x pauli.z pauli.phase angle.value angle.sine angle.cosine here.width join.size) result
-        (λ done. RotationDone here.width here.index join tally.old tally.new out.old.steps.now out.old.sizes.now out.old.rotations.now out.new.steps.now out.new.sizes.now out.new.rotations.now) }
+    ensures merges { out.new.merges.now ≡ out.old.merges.now }
+    ensures promotions { out.new.promotions.now ≡ out.old.promotions.now }
+    ensures measurements { out.new.measurements.now ≡ out.old.measurements.now }
+    ensures settled { let before = rotation_progress tally.old out.old in
+        let after = rotation_progress tally.new out.new in
+        Settled (rotation_answer place.now pauli angle here join.size) result
+        (λ done. RotationDone here join before after) }
 {
     *tally = rotate(
         pauli,
@@ -137,12 +146,17 @@ fn promotion(
     tally: &mut Tally,
     out: &mut StoredOutputs,
 )
-    requires fits { PromotionFits state.old.count here.width here.index tally.old out.old.steps.now out.old.sizes.now out.old.promotions.now }
+    requires fits { PromotionFits state.old.count here (promotion_progress tally.old out.old) }
     requires room { BeforePromotion state.old }
     ensures same { SameOutputs out.old out.new }
-    ensures kept { (out.new.merges.now ≡ out.old.merges.now) × (out.new.rotations.now ≡ out.old.rotations.now) × (out.new.measurements.now ≡ out.old.measurements.now) }
-    ensures done { PromotionDone state.old.count here.width here.index tally.old tally.new out.old.steps.now out.old.sizes.now out.old.promotions.now out.new.steps.now out.new.sizes.now out.new.promotions.now }
-    ensures grown { (state.new ≡ promoted state.old) × (order.new ≡ set order.old state.old.width state.old.count) }
+    ensures merges { out.new.merges.now ≡ out.old.merges.now }
+    ensures rotations { out.new.rotations.now ≡ out.old.rotations.now }
+    ensures measurements { out.new.measurements.now ≡ out.old.measurements.now }
+    ensures done { let before = promotion_progress tally.old out.old in
+        let after = promotion_progress tally.new out.new in
+        PromotionDone state.old.count here before after }
+    ensures grown { state.new ≡ promoted state.old }
+    ensures appended { order.new ≡ set order.old state.old.width state.old.count }
 {
     let next = state.count;
     *tally = promote(next, here, *tally, out.steps, out.sizes, out.promotions);
@@ -162,13 +176,20 @@ fn measurement(
     tally: &mut Tally,
     out: &mut StoredOutputs,
 ) -> Result<(), Reason>
-    requires joined_fits { JoinedFits state.old.place pauli.x pauli.z here.width here.index join tally.old out.old.steps.now out.old.sizes.now }
-    requires row_room { measurement_words * tally.old.measurements + measurement_words ≤ length out.old.measurements.now }
-    requires leaves { Leaves (measurement_answer here.limit state.old.component state.old.place pauli.x pauli.z pauli.phase pivot here.width join) state.old pivot }
+    requires joined_fits { JoinedFits state.old.place pauli here join
+        tally.old out.old.steps.now out.old.sizes.now }
+    requires row_room { measurement_words * tally.old.measurements + measurement_words
+        ≤ length out.old.measurements.now }
+    requires leaves { Leaves (answer_in state.old pauli pivot here join) state.old pivot }
     ensures same { SameOutputs out.old out.new }
-    ensures kept { (out.new.merges.now ≡ out.old.merges.now) × (out.new.rotations.now ≡ out.old.rotations.now) × (out.new.promotions.now ≡ out.old.promotions.now) }
-    ensures settled { Settled (measurement_answer here.limit state.old.component state.old.place pauli.x pauli.z pauli.phase pivot here.width join) result
-        (λ done. Measured (MeasurementDone here.width here.index join tally.old tally.new out.old.steps.now out.old.sizes.now out.old.measurements.now out.new.steps.now out.new.sizes.now out.new.measurements.now) pivot order.old order.new state.old state.new) }
+    ensures merges { out.new.merges.now ≡ out.old.merges.now }
+    ensures rotations { out.new.rotations.now ≡ out.old.rotations.now }
+    ensures promotions { out.new.promotions.now ≡ out.old.promotions.now }
+    ensures settled { let before = measurement_progress tally.old out.old in
+        let after = measurement_progress tally.new out.new in
+        let written = MeasurementDone here join before after in
+        Settled (answer_in state.old pauli pivot here join) result
+        (λ done. Measured written pivot order.old order.new state.old state.new) }
 {
     *tally = measure(
         pauli,
@@ -189,9 +210,11 @@ fn measurement(
     Ok(())
 }
 
-// One record: its join, and its rotation, promotion or measurement; or the reason why it is refused.
-// Kept: here and above order, state and sums are three parameters: a join changes the state alone and a rotation the sums alone,
-// and with a struct their contracts would have to say that the rest is as it was.
+// One record: its join, and its rotation, promotion or measurement; or the reason why it is
+// refused.
+// Kept: here and above order, state and sums are three parameters: a join changes the state alone
+// and a rotation the sums alone, and with a struct their contracts would have to say that the
+// rest is as it was.
 fn record_step(
     limit: u64,
     records: &[u64],
@@ -201,10 +224,14 @@ fn record_step(
     tally: &mut Tally,
     out: &mut StoredOutputs,
 ) -> Result<(), Reason>
-    requires { Standing limit records.now index order.old state.old tally.old (buffers_of out.old) }
+    requires { Standing limit records.now index
+        order.old state.old tally.old (buffers_of out.old) }
     ensures same { SameOutputs out.old out.new }
-    ensures step { (k : ℕ) (groups : List ℕ) → Looping limit k records.now index order.old state.old tally.old (buffers_of out.old groups)
-        → StepEnds limit k records.now index result order.new state.new tally.new (buffers_of out.new groups) }
+    ensures step { (k : ℕ) (groups : List ℕ)
+        → Looping limit k records.now index
+        order.old state.old tally.old (buffers_of out.old groups)
+        → StepEnds limit k records.now index result
+        order.new state.new tally.new (buffers_of out.new groups) }
 {
     let instruction = read(records, index);
     let here = AtRecord {
@@ -263,7 +290,9 @@ pub fn walk(
 ) -> Result<Summary, Refusal>
     requires { Walkable initial_k records.now (buffers_of out.old groups.old) }
     ensures same { SameOutputs out.old out.new }
-    ensures walked { WalkEnds (walk_from limit 0 (start initial_k) (instructions_of records.now)) result (buffers_of out.new groups.new) }
+    ensures walked { let instructions = instructions_of records.now in
+        let walked = walk_from limit 0 (start initial_k) instructions in
+        WalkEnds walked result (buffers_of out.new groups.new) }
 {
     let mut order = first_order(initial_k);
     let mut state = State::start(initial_k);

@@ -59,7 +59,7 @@ returns-in_err-measurement-in-Measurement-clause-step c = λ k groups lo.
 pub returns-in_ok-rotation-in-Rotation-clause-step : goal.returns-in_ok-rotation-in-Rotation-clause-step
 returns-in_ok-rotation-in-Rotation-clause-step c = λ k groups lo.
     let went = c.in_ok-rotation-in-Rotation.ensures in
-    rotate_goes lo c.requires.next c.read-instruction.ensures c.in_ok-made.ensures c.in-Rotation.is c.in-Some.is went.settled.0 _ _ went.settled.1 went.settled.2 went.kept.0 went.kept.1 went.kept.2 (search rules)
+    rotate_goes lo c.requires.next c.read-instruction.ensures c.in_ok-made.ensures c.in-Rotation.is c.in-Some.is went.settled.0 _ _ went.settled.1 went.settled.2 went.merges went.promotions went.measurements (search rules)
 
 pub returns-in_default-made-clause-step : goal.returns-in_default-made-clause-step
 returns-in_default-made-clause-step c = λ k groups lo.
@@ -68,13 +68,13 @@ returns-in_default-made-clause-step c = λ k groups lo.
 pub returns-in-Promotion-clause-step : goal.returns-in-Promotion-clause-step
 returns-in-Promotion-clause-step c = λ k groups lo.
     let went = c.promotion.ensures in
-    promote_goes lo c.requires.next c.read-instruction.ensures c.in_ok-made.ensures c.in-Promotion.is _ _ _ _ went.done went.grown.0 went.grown.1 went.kept.0 went.kept.1 went.kept.2 (search rules)
+    promote_goes lo c.requires.next c.read-instruction.ensures c.in_ok-made.ensures c.in-Promotion.is _ _ _ _ went.done went.grown went.appended went.merges went.rotations went.measurements (search rules)
 
 pub returns-in_ok-measurement-in-Measurement-clause-step : goal.returns-in_ok-measurement-in-Measurement-clause-step
 returns-in_ok-measurement-in-Measurement-clause-step c = λ k groups lo.
     let went = c.in_ok-measurement-in-Measurement.ensures in
     let all = went.settled.2 in
-    measure_goes lo c.requires.next c.read-instruction.ensures c.in_ok-made.ensures c.in-Measurement.is c.unwrap-join.ensures went.settled.0 _ _ _ _ went.settled.1 all.done all.removed all.closed went.kept.0 went.kept.2 went.kept.1 (search rules)
+    measure_goes lo c.requires.next c.read-instruction.ensures c.in_ok-made.ensures c.in-Measurement.is c.unwrap-join.ensures went.settled.0 _ _ _ _ went.settled.1 all.done all.removed all.closed went.merges went.promotions went.rotations (search rules)
 
 pub returns-in_default : goal.returns-in_default
 returns-in_default c = record {
