@@ -13,6 +13,7 @@ use Rattle.kernels.specs.declared.active.ActivePauliAction.{ActivePauliAction}
 use Rattle.records.specs.declared.Instruction.{Instruction}
 use Rattle.records.specs.declared.Instruction.TheVariants.{Rotation, Promotion, RecordMeasurement, RecordDetector, Measurement, Expectation, DormantBranch}
 use Rattle.plan_spec.specs.Lists.{place_of, numbers_from, total, concat}
+use Rattle.plan_spec.specs.Rows.{row_component, row_width, row_x, row_z, measurement_pivot}
 use Rattle.plan_spec.specs.Components.{support, local_mask, live_dimension, amplitudes}
 use Rattle.plan_spec.specs.Walk.{Walk, join_of, local_action, start, no_step, ignored_step, promotion_step, rotation_step, measurement_step, row_head, rotation_row, measurement_row}
 use Rattle.plan_spec.specs.Plan.{Plan, plan_from}
@@ -114,8 +115,8 @@ module _ (w : Walk) (r : ActiveOrder) (t : Tracked w r) (width x z : ℕ) (wide 
       gathered_holds w.components (join_of x z w).sources a l.0
       (holds_source w.components (active_of w r) h x z l.0 a l.1 coordinate l.2) l.2
 
-  pub join_holds : (component row : List ℕ) → component ≡ members → get_or row 3 0 ≡ length members → get_or row 4 0 ≡ local_mask x w.order members
-      → get_or row 5 0 ≡ local_mask z w.order members → JoinHolds r.order (support_of width x z r.order) component row x z
+  pub join_holds : (component row : List ℕ) → component ≡ members → row_width row ≡ length members → row_x row ≡ local_mask x w.order members
+      → row_z row ≡ local_mask z w.order members → JoinHolds r.order (support_of width x z r.order) component row x z
   join_holds component row same size xs zs = record {
     whole_support = λ a m. subst (λ (l : List ℕ). Member a l) (sym same) (support_held a m);
     local_width = ap length same ∙ sym size;
@@ -124,7 +125,7 @@ module _ (w : Walk) (r : ActiveOrder) (t : Tracked w r) (width x z : ℕ) (wide 
     z_clear = λ j h. ap (λ (n : ℕ). bit_at n j) zs ∙ local_clear z w.order members j (subst (λ (n : ℕ). n ≤ j) size h);
   }
     where
-      local : (j : ℕ) → j < length members → LocalBits r.order component x z (get_or row 4 0) (get_or row 5 0) j
+      local : (j : ℕ) → j < length members → LocalBits r.order component x z (row_x row) (row_z row) j
       local j h =
           let a = get_or members j 0 in
           let on = member_active a (member_at members j h) in
@@ -140,13 +141,13 @@ module _ (w : Walk) (r : ActiveOrder) (t : Tracked w r) (width x z : ℕ) (wide 
 
 -- component, local width and masks in a row of either kind
 head_entries : (row tail : List ℕ) (component offset count : ℕ) (a b : ActivePauliAction) → row ≡ row_head component offset count a ++ tail → a ≡ b
-    → (get_or row 0 0 ≡ component) × (get_or row 3 0 ≡ b.nqubits) × (get_or row 4 0 ≡ b.xmask) × (get_or row 5 0 ≡ b.zmask)
+    → (row_component row ≡ component) × (row_width row ≡ b.nqubits) × (row_x row ≡ b.xmask) × (row_z row ≡ b.zmask)
 unfolding row_head
 head_entries row tail component offset count a b e same = (
-  ap (λ (l : List ℕ). get_or l 0 0) e,
-  ap (λ (l : List ℕ). get_or l 3 0) e ∙ ap (λ (c : ActivePauliAction). c.nqubits) same,
-  ap (λ (l : List ℕ). get_or l 4 0) e ∙ ap (λ (c : ActivePauliAction). c.xmask) same,
-  ap (λ (l : List ℕ). get_or l 5 0) e ∙ ap (λ (c : ActivePauliAction). c.zmask) same,
+  ap row_component e,
+  ap row_width e ∙ ap (λ (c : ActivePauliAction). c.nqubits) same,
+  ap row_x e ∙ ap (λ (c : ActivePauliAction). c.xmask) same,
+  ap row_z e ∙ ap (λ (c : ActivePauliAction). c.zmask) same,
 )
 
 module _ (initial dense_peak : ℕ) (u : Walk) (rotations_wide : AllOf 21 u.written.rotations) (measurements_wide : AllOf 19 u.written.measurements) where
@@ -166,10 +167,10 @@ module _ (initial dense_peak : ℕ) (u : Walk) (rotations_wide : AllOf 21 u.writ
       (rotation_row_lem initial dense_peak u rotations_wide measurements_wide m w j k l g)
       (rotation_action limit (local_action x z phase w j) phase angle sine cosine k made) in
       let component = step_joined initial dense_peak u rotations_wide measurements_wide {limit = limit} m r (rotated width x z phase angle sine cosine k wide active small fits made) l g t replay
-      (get_or (rotation_at plan m) 0 0) in
+      (row_component (rotation_at plan m)) in
       inr record {
         kind = rotation_kind initial dense_peak u rotations_wide measurements_wide m w j k l g;
-        holds = join_holds w r t width x z wide (replay_joined plan m (replay_after plan m) (get_or (rotation_at plan m) 0 0)) (rotation_at plan m)
+        holds = join_holds w r t width x z wide (replay_joined plan m (replay_after plan m) (row_component (rotation_at plan m))) (rotation_at plan m)
             (component ∙ ap (λ (c : ℕ). get_or j.components c []) row.0 ∙ target_members w r t x z active) row.1 row.2 row.3;
       }
   step_claim m r promoted l g t replay = tt
@@ -180,13 +181,13 @@ module _ (initial dense_peak : ℕ) (u : Walk) (rotations_wide : AllOf 21 u.writ
       (measurement_row_lem initial dense_peak u rotations_wide measurements_wide m w j pivot k l g) kept.0 in
       let named = measurement_named initial dense_peak u rotations_wide measurements_wide m w j pivot k l g in
       let component = step_joined initial dense_peak u rotations_wide measurements_wide {limit = limit} m r (measured width x z phase pivot k wide active small fits below inside made) l g t replay
-      (get_or (measurement_at plan m) 0 0) in
+      (row_component (measurement_at plan m)) in
       let same = component ∙ ap (λ (c : ℕ). get_or j.components c []) row.0 ∙ target_members w r t x z active in
       let local = named.1 ∙ kept.1 in record {
         kind = measurement_kind initial dense_peak u rotations_wide measurements_wide m w j pivot k l g;
-        holds = join_holds w r t width x z wide (replay_joined plan m (replay_after plan m) (get_or (measurement_at plan m) 0 0)) (measurement_at plan m) same row.1 row.2 row.3;
+        holds = join_holds w r t width x z wide (replay_joined plan m (replay_after plan m) (row_component (measurement_at plan m))) (measurement_at plan m) same row.1 row.2 row.3;
         pivot_active = subst (λ (o : List ℕ). pivot < length o) t.order_same below;
-        pivot_local = subst (λ (n : ℕ). get_or (measurement_at plan m) 11 0 < n) (sym row.1)
+        pivot_local = subst (λ (n : ℕ). measurement_pivot (measurement_at plan m) < n) (sym row.1)
             (subst (λ (q : ℕ). q < length j.members) (sym local) (place_below (get_or w.order pivot 0) j.members inside));
         pivot_same =
             ap₂ (λ (l : List ℕ) (q : ℕ). get_or l q 0) same local ∙ place_holds (get_or w.order pivot 0) j.members inside

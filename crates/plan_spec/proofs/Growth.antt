@@ -25,6 +25,7 @@ use Rattle.records.specs.declared.Instruction.{Instruction}
 use Rattle.records.specs.declared.Instruction.TheVariants.{Rotation, Promotion, RecordMeasurement, RecordDetector, Measurement, Expectation, DormantBranch}
 use Rattle.records.proofs.Laws.{refused_in, instructions_length}
 use Rattle.plan_spec.specs.Lists.{concat, is_in, place_of, remove_at}
+use Rattle.plan_spec.specs.Rows.{row_merge_offset, row_merge_count, step_row}
 use Rattle.plan_spec.specs.Walk.{Written, Walk, join_of, local_action, rotation_row, measurement_row, with_step, refuse, when_given, is_none, no_step, ignored_step, promotion_step, rotation_step, measurement_step, rotate, measure, step, Walked, finished, stopped, onward, start, walk_from}
 use Rattle.plan_spec.specs.Plan.{Lengths, Plan, Result, planned, refused_at, unread, words_refused, buffers_refused, after_walk, after_pass, refuse_all, plan_read, max_dimension, for_dense_peak, ceiling_refused, plan_of}
 use Rattle.plan_spec.proofs.Steps.{Stepped, ignored, rotated, promoted, measured, recorded, detected, expected, branched, Run, done, more}
@@ -87,7 +88,7 @@ AllOf n rows = EachRow (λ row. length row ≡ n) rows
 
 -- every row's merge offset and count lie inside the first n words of the merge list
 abbrev pub AllInside : ℕ → List (List ℕ) → Type 0
-AllInside n rows = EachRow (λ row. get_or row 1 0 + get_or row 2 0 ≤ n) rows
+AllInside n rows = EachRow (λ row. row_merge_offset row + row_merge_count row ≤ n) rows
 
 -- those of both kinds of rows, in the merge list written so far
 abbrev pub Inside : Written → Type 0
@@ -179,13 +180,13 @@ appended_then a b = record {
 appended_none : (kind payload : ℕ) (o : Written) → Appended 1 o (with_step kind payload o)
 appended_none kind payload o = record {
   grown = record {
-    steps = (kind ∷ payload ∷ [], refl);
+    steps = (step_row kind payload, refl);
     merges = extends_refl o.merges;
     rotations = extends_refl o.rotations;
     promotions = extends_refl o.promotions;
     measurements = extends_refl o.measurements;
   };
-  steps_more = length-append o.steps (kind ∷ payload ∷ []);
+  steps_more = length-append o.steps (step_row kind payload);
   rows_more = omega arith;
   rotations_wide = λ h. h;
   measurements_wide = λ h. h;
@@ -213,7 +214,7 @@ step_appended {w = w} (rotated width x z phase angle sine cosine k e a b c d) =
       rotations_wide = λ h. each_more (λ r. length r ≡ 21) o.rotations row h refl;
       measurements_wide = λ h. h;
       rows_inside = λ h. (
-        each_more (λ r. get_or r 1 0 + get_or r 2 0 ≤ length (o.merges ++ j.sources)) o.rotations row
+        each_more (λ r. row_merge_offset r + row_merge_count r ≤ length (o.merges ++ j.sources)) o.rotations row
             (inside_wider (length o.merges) (length (o.merges ++ j.sources)) o.rotations (omega arith) h.0) (omega arith),
         inside_wider (length o.merges) (length (o.merges ++ j.sources)) o.measurements (omega arith) h.1,
       );
@@ -252,7 +253,7 @@ step_appended {w = w} (measured width x z phase pivot k e a b c d f g) =
       measurements_wide = λ h. each_more (λ r. length r ≡ 19) o.measurements row h refl;
       rows_inside = λ h. (
         inside_wider (length o.merges) (length (o.merges ++ j.sources)) o.rotations (omega arith) h.0,
-        each_more (λ r. get_or r 1 0 + get_or r 2 0 ≤ length (o.merges ++ j.sources)) o.measurements row
+        each_more (λ r. row_merge_offset r + row_merge_count r ≤ length (o.merges ++ j.sources)) o.measurements row
             (inside_wider (length o.merges) (length (o.merges ++ j.sources)) o.measurements (omega arith) h.1) (omega arith),
       );
     }

@@ -10,6 +10,7 @@ use Rattle.records.specs.Record.{instructions_of}
 use Rattle.records.specs.declared.Head.{Head}
 use Rattle.records.specs.declared.Instruction.{Instruction}
 use Rattle.records.specs.declared.Instruction.TheVariants.{Rotation, Promotion, RecordMeasurement, RecordDetector, Measurement, Expectation, DormantBranch}
+use Rattle.plan_spec.specs.Rows.{row_component, row_merge_offset, row_merge_count, step_row}
 use Rattle.plan_spec.specs.Components.{members_of}
 use Rattle.plan_spec.specs.Walk.{Written, Walk, join_of, start, no_step, ignored_step, promotion_step, rotation_step, measurement_step, row_head, rotation_row, measurement_row}
 use Rattle.plan_spec.specs.Plan.{Lengths, Plan, planned, plan_from, plan_of}
@@ -36,7 +37,7 @@ module _ (initial dense_peak : ℕ) (u : Walk) (rotations_of_21 : AllOf 21 u.wri
 
   -- a row that names the place and the number of its join's sources lists them
   row_listed : (m kind : ℕ) (row : List ℕ) (w : Walk) (r : ActiveOrder) (x z : ℕ) → Tracked w r → Follows m w → 0 < length w.order → kind_at plan m ≡ kind
-      → (get_or row 0 0 ≡ (join_of x z w).component) × (get_or row 1 0 ≡ length w.written.merges) × (get_or row 2 0 ≡ length (join_of x z w).sources)
+      → (row_component row ≡ (join_of x z w).component) × (row_merge_offset row ≡ length w.written.merges) × (row_merge_count row ≡ length (join_of x z w).sources)
       → Extends (w.written.merges ++ (join_of x z w).sources) u.written.merges → Listed plan m kind row r.order x z
   unfolding plan_from join_of
   row_listed m kind row w r x z t replay active kind_is entries e =
@@ -52,7 +53,7 @@ module _ (initial dense_peak : ℕ) (u : Walk) (rotations_of_21 : AllOf 21 u.wri
       }
 
   -- a step of another kind names no part
-  no_part : (m kind payload : ℕ) (written : List ℕ) → length written ≡ 2 * m → Extends (written ++ (kind ∷ payload ∷ [])) u.written.steps
+  no_part : (m kind payload : ℕ) (written : List ℕ) → length written ≡ 2 * m → Extends (written ++ step_row kind payload) u.written.steps
       → (kind ≡ 2 → ⊥) → (kind ≡ 4 → ⊥) → NoPart plan m
   unfolding plan_from
   no_part m kind payload written l e two four =
@@ -67,13 +68,13 @@ module _ (initial dense_peak : ℕ) (u : Walk) (rotations_of_21 : AllOf 21 u.wri
       let j = join_of x z w in
       let row = rotation_row_lem initial dense_peak u rotations_of_21 measurements_of_19 m w j k l g in
       inr (row_listed m 2 (rotation_at plan m) w r x z t replay active (rotation_kind initial dense_peak u rotations_of_21 measurements_of_19 m w j k l g)
-      (ap (λ (l : List ℕ). get_or l 0 0) row, ap (λ (l : List ℕ). get_or l 1 0) row, ap (λ (l : List ℕ). get_or l 2 0) row) g.merges)
+      (ap row_component row, ap row_merge_offset row, ap row_merge_count row) g.merges)
   step_listed {w = w} m r promoted l g t replay = no_part m 3 (length w.written.promotions) w.written.steps l g.steps (λ e. omega (arith, e)) (λ e. omega (arith, e))
   step_listed {w = w} m r (measured width x z phase pivot k wide active small fits below inside made) l g t replay =
       let j = join_of x z w in
       let row = measurement_row_lem initial dense_peak u rotations_of_21 measurements_of_19 m w j pivot k l g in
       row_listed m 4 (measurement_at plan m) w r x z t replay active (measurement_kind initial dense_peak u rotations_of_21 measurements_of_19 m w j pivot k l g)
-      (ap (λ (l : List ℕ). get_or l 0 0) row, ap (λ (l : List ℕ). get_or l 1 0) row, ap (λ (l : List ℕ). get_or l 2 0) row) g.merges
+      (ap row_component row, ap row_merge_offset row, ap row_merge_count row) g.merges
   step_listed {w = w} m r recorded l g t replay = no_part m 0 0 w.written.steps l g.steps (λ e. omega (arith, e)) (λ e. omega (arith, e))
   step_listed {w = w} m r detected l g t replay = no_part m 0 0 w.written.steps l g.steps (λ e. omega (arith, e)) (λ e. omega (arith, e))
   step_listed {w = w} m r expected l g t replay = no_part m 0 0 w.written.steps l g.steps (λ e. omega (arith, e)) (λ e. omega (arith, e))
@@ -184,8 +185,8 @@ module _ (p q : Plan) (pads : Pads p q) (m : ℕ) (named : (j : ℕ) → j < suc
       let long = zeroed_length p.merges q.merges pads.merges in
       let before = after_same p q pads m (λ j h. named j (omega arith)) in record {
         kind_is = kind_same p q pads m ∙ c.kind_is;
-        inside = let i = c.inside in subst (λ (l : List ℕ). get_or l 1 0 + get_or l 2 0 ≤ length q.merges) (sym same) (omega arith);
-        component = ap (λ (l : List ℕ). get_or l 0 0) same ∙ c.component ∙ sym (ap (λ (l : List ℕ). get_or l 0 0) part);
+        inside = let i = c.inside in subst (λ (l : List ℕ). row_merge_offset l + row_merge_count l ≤ length q.merges) (sym same) (omega arith);
+        component = ap row_component same ∙ c.component ∙ sym (ap (λ (l : List ℕ). get_or l 0 0) part);
         sources = subst₂ (λ (b : Replayed) (l : List ℕ). Sources order b x z l) (sym before) (sym part) c.sources;
       }
 

@@ -16,6 +16,7 @@ use Rattle.records.specs.declared.Head.{Head}
 use Rattle.records.specs.declared.Instruction.{Instruction}
 use Rattle.records.specs.declared.Instruction.TheVariants.{Rotation, Promotion, RecordMeasurement, RecordDetector, Measurement, Expectation, DormantBranch}
 use Rattle.plan_spec.specs.Lists.{numbers_from, total, concat}
+use Rattle.plan_spec.specs.Rows.{row_component, row_merge_offset, row_merge_count, row_width, measurement_pivot, step_row}
 use Rattle.plan_spec.specs.Walk.{Written, Walk, start, no_step, ignored_step, promotion_step, rotation_step, measurement_step}
 use Rattle.plan_spec.specs.Plan.{Lengths, Plan, padded, plan_from}
 use Rattle.plan_spec.specs.Connectivity.{Member, NoRepeats, Rearranged, ActiveOrder, active_start, active_after, support_of, Replayed, replay_start, replay_join, kind_at, payload_at, row_at, rotation_at, measurement_at, listed_by, joined_by, replay_promotion, drop_member, changed_by, replay_joined, replay_after, replay_members, SameComponent, longest_of, JoinHolds, RotationJoin, MeasurementJoin, JoinClaim, measurements_in, Connected}
@@ -70,7 +71,7 @@ RowNamed o m =
     × (get_or o.steps (2 * m) 0 ≡ 4 → get_or o.steps (suc (2 * m)) 0 < length o.measurements)
 
 -- a step of another kind names none
-none_named : (o : Written) (m kind payload : ℕ) (written : List ℕ) → length written ≡ 2 * m → Extends (written ++ (kind ∷ payload ∷ [])) o.steps
+none_named : (o : Written) (m kind payload : ℕ) (written : List ℕ) → length written ≡ 2 * m → Extends (written ++ step_row kind payload) o.steps
     → (kind ≡ 2 → ⊥) → (kind ≡ 4 → ⊥) → RowNamed o m
 none_named o m kind payload written l e two four =
     let k = seam_first written o.steps kind payload (2 * m) l e in (λ f. absurd (two (sym k ∙ f)), λ f. absurd (four (sym k ∙ f)))
@@ -109,7 +110,7 @@ run_named o a (more {is = is} s rest) l g m from to =
 -- a row among the rows of a plan, and the part that it names among its merge list
 abbrev RowInside : ℕ → List ℕ → List ℕ → ℕ → Type 0
 RowInside size rows merges payload =
-    (size * payload + size ≤ length rows) × (get_or (row_at size rows payload) 1 0 + get_or (row_at size rows payload) 2 0 ≤ length merges)
+    (size * payload + size ≤ length rows) × (row_merge_offset (row_at size rows payload) + row_merge_count (row_at size rows payload) ≤ length merges)
 
 -- so it is for each row of a run
 row_inside : (size : ℕ) (rows : List (List ℕ)) (merges : List ℕ) (i : ℕ) → AllOf size rows → AllInside (length merges) rows → i < length rows
@@ -119,7 +120,7 @@ row_inside size rows merges i wide inside h =
     let next = mul-suc size i in
     let most = mul-le-mul_left size h in (
       omega arith,
-      subst (λ (row : List ℕ). get_or row 1 0 + get_or row 2 0 ≤ length merges) (sym (row-at size rows i wide h)) (inside i h),
+      subst (λ (row : List ℕ). row_merge_offset row + row_merge_count row ≤ length merges) (sym (row-at size rows i wide h)) (inside i h),
     )
 
 -- what step m names lies among the words
@@ -187,7 +188,7 @@ module _ (p q : Plan) (pads : Pads p q) where
   pub rotation_part : (m : ℕ) → Named p m → kind_at p m ≡ 2 → listed_by q (rotation_at q m) ≡ listed_by p (rotation_at p m)
   rotation_part m named e =
       ap (λ (row : List ℕ). listed_by q row) (rotation_same m named e)
-      ∙ zeroed_part p.merges q.merges (get_or (rotation_at p m) 1 0) (get_or (rotation_at p m) 2 0) (named.rotation e).1 pads.merges
+      ∙ zeroed_part p.merges q.merges (row_merge_offset (rotation_at p m)) (row_merge_count (rotation_at p m)) (named.rotation e).1 pads.merges
 
   -- a measurement's row, and the part of the merge list that it names
   pub measurement_same : (m : ℕ) → Named p m → kind_at p m ≡ 4 → measurement_at q m ≡ measurement_at p m
@@ -198,7 +199,7 @@ module _ (p q : Plan) (pads : Pads p q) where
   pub measurement_part : (m : ℕ) → Named p m → kind_at p m ≡ 4 → listed_by q (measurement_at q m) ≡ listed_by p (measurement_at p m)
   measurement_part m named e =
       ap (λ (row : List ℕ). listed_by q row) (measurement_same m named e)
-      ∙ zeroed_part p.merges q.merges (get_or (measurement_at p m) 1 0) (get_or (measurement_at p m) 2 0) (named.measurement e).1 pads.merges
+      ∙ zeroed_part p.merges q.merges (row_merge_offset (measurement_at p m)) (row_merge_count (measurement_at p m)) (named.measurement e).1 pads.merges
 
   -- the join of record m
   join_same : (m : ℕ) → Named p m → (b : Replayed) → replay_joined q m b ≡ replay_joined p m b
@@ -213,7 +214,7 @@ module _ (p q : Plan) (pads : Pads p q) where
   change_same m named b =
       ap (λ (n : ℕ). changed_by n q m b) (kind_same m)
       ∙ kind_chosen (kind_at p m) 3 _ _ _ _ (λ e. ap (λ (c : ℕ). replay_promotion c b) (promotion_same m))
-      (kind_chosen (kind_at p m) 4 _ _ _ _ (λ e. ap (λ (row : List ℕ). drop_member (get_or row 0 0) (get_or row 11 0) b) (measurement_same m named e)) refl)
+      (kind_chosen (kind_at p m) 4 _ _ _ _ (λ e. ap (λ (row : List ℕ). drop_member (row_component row) (measurement_pivot row) b) (measurement_same m named e)) refl)
 
   -- the components after m records
   pub after_same : (m : ℕ) → ((j : ℕ) → j < m → Named p j) → replay_after q m ≡ replay_after p m
@@ -261,11 +262,11 @@ module _ (p q : Plan) (pads : Pads p q) where
   }
 
   -- what holds of a row and its component
-  holds_same : (order support row row' : List ℕ) (b d : Replayed) (x z : ℕ) → row ≡ row' → b ≡ d → JoinHolds order support (d (get_or row' 0 0)) row' x z
-      → JoinHolds order support (b (get_or row 0 0)) row x z
+  holds_same : (order support row row' : List ℕ) (b d : Replayed) (x z : ℕ) → row ≡ row' → b ≡ d → JoinHolds order support (d (row_component row')) row' x z
+      → JoinHolds order support (b (row_component row)) row x z
   holds_same order support row row' b d x z e f h =
-      subst (λ (f : Replayed). JoinHolds order support (f (get_or row 0 0)) row x z) (sym f)
-      (subst (λ (l : List ℕ). JoinHolds order support (d (get_or l 0 0)) l x z) (sym e) h)
+      subst (λ (f : Replayed). JoinHolds order support (f (row_component row)) row x z) (sym f)
+      (subst (λ (l : List ℕ). JoinHolds order support (d (row_component l)) l x z) (sym e) h)
 
   module _ (m : ℕ) (named : (j : ℕ) → j < suc m → Named p j) (r : ActiveOrder) where
     -- of a rotation
@@ -283,9 +284,9 @@ module _ (p q : Plan) (pads : Pads p q) where
           kind = kind_same m ∙ c.kind;
           holds = holds_same r.order (support_of width x z r.order) (measurement_at q m) (measurement_at p m) _ _ x z row (joined_same m named) c.holds;
           pivot_active = c.pivot_active;
-          pivot_local = subst (λ (l : List ℕ). get_or l 11 0 < get_or l 3 0) (sym row) c.pivot_local;
+          pivot_local = subst (λ (l : List ℕ). measurement_pivot l < row_width l) (sym row) c.pivot_local;
           pivot_same =
-              ap₂ (λ (b : Replayed) (l : List ℕ). get_or (b (get_or l 0 0)) (get_or l 11 0) 0) (joined_same m named) row
+              ap₂ (λ (b : Replayed) (l : List ℕ). get_or (b (row_component l)) (measurement_pivot l) 0) (joined_same m named) row
               ∙ c.pivot_same;
         }
 

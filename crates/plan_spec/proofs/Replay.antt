@@ -14,6 +14,7 @@ use Rattle.kernels.specs.declared.active.PrecomputedActivePauliRotationKernel.{P
 use Rattle.kernels.specs.declared.active.PrecomputedActivePauliMeasurementKernel.{PrecomputedActivePauliMeasurementKernel}
 use Rattle.records.specs.declared.Instruction.{Instruction}
 use Rattle.plan_spec.specs.Lists.{is_in, remove_at, numbers_from, concat}
+use Rattle.plan_spec.specs.Rows.{row_component, measurement_pivot, step_row}
 use Rattle.plan_spec.specs.Walk.{Walk, Join, join_of, start, no_step, ignored_step, promotion_step, rotation_step, measurement_step, row_head, rotation_row, measurement_row}
 use Rattle.plan_spec.specs.Plan.{Plan, plan_from}
 use Rattle.plan_spec.specs.Connectivity.{ActiveOrder, active_step, Replayed, joined_members, replay_join, kind_at, payload_at, row_at, rotation_at, measurement_at, listed_by, joined_by, replay_promotion, drop_member, changed_by, replay_joined, replay_after}
@@ -85,11 +86,11 @@ module _ (initial dense_peak : ℕ) (u : Walk) (rotations_wide : AllOf 21 u.writ
   ReplayIs m w = (i : ℕ) → replay_after plan m i ≡ get_or w.components i []
 
   -- the kind and the payload that a step wrote
-  wrote_kind : (m kind payload : ℕ) (written : List ℕ) → length written ≡ 2 * m → Extends (written ++ (kind ∷ payload ∷ [])) u.written.steps → kind_at plan m ≡ kind
+  wrote_kind : (m kind payload : ℕ) (written : List ℕ) → length written ≡ 2 * m → Extends (written ++ step_row kind payload) u.written.steps → kind_at plan m ≡ kind
   unfolding plan_from
   wrote_kind m kind payload written l e = seam_first written u.written.steps kind payload (2 * m) l e
 
-  wrote_payload : (m kind payload : ℕ) (written : List ℕ) → length written ≡ 2 * m → Extends (written ++ (kind ∷ payload ∷ [])) u.written.steps → payload_at plan m ≡ payload
+  wrote_payload : (m kind payload : ℕ) (written : List ℕ) → length written ≡ 2 * m → Extends (written ++ step_row kind payload) u.written.steps → payload_at plan m ≡ payload
   unfolding plan_from
   wrote_payload m kind payload written l e = seam_second written u.written.steps kind payload (2 * m) l e
 
@@ -198,8 +199,8 @@ module _ (initial dense_peak : ℕ) (u : Walk) (rotations_wide : AllOf 21 u.writ
       rest)
       (snoc_at [] w.components (length w.components ∷ []) c)
 
-  measured_replay : (m component local : ℕ) (cs : List (List ℕ)) (members : List ℕ) → kind_at plan m ≡ 4 → get_or (measurement_at plan m) 0 0 ≡ component
-      → get_or (measurement_at plan m) 11 0 ≡ local → component < length cs → get_or cs component [] ≡ members
+  measured_replay : (m component local : ℕ) (cs : List (List ℕ)) (members : List ℕ) → kind_at plan m ≡ 4 → row_component (measurement_at plan m) ≡ component
+      → measurement_pivot (measurement_at plan m) ≡ local → component < length cs → get_or cs component [] ≡ members
       → ((c : ℕ) → replay_joined plan m (replay_after plan m) c ≡ get_or cs c [])
       → (c : ℕ) → replay_after plan (suc m) c ≡ get_or (set cs component (remove_at local members)) c []
   unfolding replay_after
@@ -215,11 +216,11 @@ module _ (initial dense_peak : ℕ) (u : Walk) (rotations_wide : AllOf 21 u.writ
   -- the component and the local pivot that a measurement's row names
   pub measurement_named : (m : ℕ) (w : Walk) (j : Join) (pivot : ℕ) (k : PrecomputedActivePauliMeasurementKernel) → length w.written.steps ≡ 2 * m
       → Grown (measurement_step w j pivot k).written u.written
-      → (get_or (measurement_at plan m) 0 0 ≡ j.component) × (get_or (measurement_at plan m) 11 0 ≡ k.pivot)
+      → (row_component (measurement_at plan m) ≡ j.component) × (measurement_pivot (measurement_at plan m) ≡ k.pivot)
   unfolding measurement_row row_head
   measurement_named m w j pivot k l g =
       let e = measurement_row_lem m w j pivot k l g in
-      (ap (λ (row : List ℕ). get_or row 0 0) e, ap (λ (row : List ℕ). get_or row 11 0) e)
+      (ap row_component e, ap measurement_pivot e)
 
   pub step_replay : {limit : ℕ} {w v : Walk} {i : Instruction} (m : ℕ) (r : ActiveOrder) → Stepped limit w i v → length w.written.steps ≡ 2 * m → Grown v.written u.written
       → Tracked w r → ReplayIs m w → ReplayIs (suc m) v

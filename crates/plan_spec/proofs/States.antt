@@ -8,6 +8,7 @@ use lib.ListN.{get_or}
 use Rattle.records.specs.declared.Instruction.{Instruction}
 use Rattle.kernels.specs.declared.active.ActivePauliAction.{ActivePauliAction}
 use Rattle.plan_spec.specs.Lists.{place_of}
+use Rattle.plan_spec.specs.Rows.{row_width}
 use Rattle.plan_spec.specs.Walk.{Walk, join_of, local_action, start, no_step, ignored_step, promotion_step, rotation_step, measurement_step, row_head, rotation_row, measurement_row}
 use Rattle.plan_spec.specs.Connectivity.{ActiveOrder, active_start}
 use Rattle.plan_spec.specs.Laws.{Whole, RowsBelow}
@@ -41,14 +42,14 @@ step_below : {limit : ℕ} {w v : Walk} {i : Instruction} → Stepped limit w i 
 unfolding no_step ignored_step promotion_step rotation_step measurement_step rotation_row measurement_row row_head
 step_below (ignored x z phase angle sine cosine empty) b = record { rotation = b.rotation; measurement = b.measurement }
 step_below {limit = limit} {w = w} (rotated width x z phase angle sine cosine k wide active small fits made) b = record {
-  rotation = each_more (λ row. get_or row 3 0 < limit) w.written.rotations _ b.rotation
+  rotation = each_more (λ row. row_width row < limit) w.written.rotations _ b.rotation
       (subst (λ (a : ActivePauliAction). a.nqubits < limit) (sym (rotation_action limit (local_action x z phase w (join_of x z w)) phase angle sine cosine k made)) small);
   measurement = b.measurement;
 }
 step_below promoted b = record { rotation = b.rotation; measurement = b.measurement }
 step_below {limit = limit} {w = w} (measured width x z phase pivot k wide active small fits below inside made) b = record {
   rotation = b.rotation;
-  measurement = each_more (λ row. get_or row 3 0 < limit) w.written.measurements _ b.measurement
+  measurement = each_more (λ row. row_width row < limit) w.written.measurements _ b.measurement
       (subst (λ (a : ActivePauliAction). a.nqubits < limit)
       (sym (measurement_keeps limit (local_action x z phase w (join_of x z w)) phase (place_of (get_or w.order pivot 0) (join_of x z w).members) k made).0) small);
 }

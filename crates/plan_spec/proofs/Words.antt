@@ -27,6 +27,7 @@ use Rattle.records.specs.declared.Instruction.{Instruction}
 use Rattle.records.specs.declared.Instruction.TheVariants.{Rotation, Promotion, RecordMeasurement, RecordDetector, Measurement, Expectation, DormantBranch}
 use Rattle.records.proofs.Laws.{instructions_length, instruction_at}
 use Rattle.plan_spec.specs.Lists.{remove_at, concat}
+use Rattle.plan_spec.specs.Rows.{step_row}
 use Rattle.plan_spec.specs.Components.{local_mask, allocated_for}
 use Rattle.plan_spec.specs.Walk.{Walk, join_of, local_action, flag_word, bits_word, pair_words, row_head, rotation_row, measurement_row, start, no_step, ignored_step, promotion_step, rotation_step, measurement_step}
 use Rattle.plan_spec.specs.Plan.{Lengths, Plan, planned, unread, unread_plan, plan_from, max_dimension, for_dense_peak, plan_of}
@@ -245,8 +246,8 @@ record Worded (w : Walk) : Type 0 where
   component : FloatFits w.component_work
 
 -- one step more
-step_more : (kind payload : ℕ) (steps : List ℕ) → kind < 2 ^ 64 → payload < 2 ^ 64 → Words steps → Words (steps ++ (kind ∷ payload ∷ []))
-step_more kind payload steps k l p = words_append steps (kind ∷ payload ∷ []) p (k, (l, tt))
+step_more : (kind payload : ℕ) (steps : List ℕ) → kind < 2 ^ 64 → payload < 2 ^ 64 → Words steps → Words (steps ++ step_row kind payload)
+step_more kind payload steps k l p = words_append steps (step_row kind payload) p (k, (l, tt))
 
 -- one row more
 row_more : (rows : List (List ℕ)) (row : List ℕ) → Words (concat rows) → Words row → Words (concat (rows ++ (row ∷ [])))

@@ -5,7 +5,7 @@ use mathlib.Core.List.{List, [], ◌∷◌, ◌++◌, map, Memᴰ}
 use Rattle.kernels.specs.Bits.{bit_at}
 use Rattle.records.specs.declared.Instruction.{Instruction}
 use Rattle.records.specs.declared.Instruction.TheVariants.{Rotation, Promotion, RecordMeasurement, RecordDetector, Measurement, Expectation, DormantBranch}
-use Rattle.plan_spec.specs.Rows.{measurement_words, rotation_words, rotation_kind, promotion_kind, measurement_kind, row_component, merge_offset, merge_count, row_width, row_x, row_z, row_pivot}
+use Rattle.plan_spec.specs.Rows.{measurement_words, rotation_words, rotation_kind, promotion_kind, measurement_kind, row_component, row_merge_offset, row_merge_count, row_width, row_x, row_z, measurement_pivot}
 use Rattle.plan_spec.specs.Lists.{is_in, remove_at, numbers_from, total, concat}
 use Rattle.plan_spec.specs.Components.{amplitudes}
 use Rattle.plan_spec.specs.Plan.{Plan}
@@ -180,7 +180,7 @@ abbrev pub promotion_at : Plan → ℕ → ℕ
 promotion_at p m = get_or p.promotions (payload_at p m) 0
 
 abbrev pub listed_by : Plan → List ℕ → List ℕ
-listed_by p row = take (merge_count row) (drop (merge_offset row) p.merges)
+listed_by p row = take (row_merge_count row) (drop (row_merge_offset row) p.merges)
 
 -- just after the join of record m, by the kind of its step
 abbrev pub joined_by : (kind : ℕ) → Plan → ℕ → Replayed → Replayed
@@ -199,7 +199,7 @@ drop_member c pivot b i = if i == c then remove_at pivot (b i) else b i
 abbrev pub changed_by : (kind : ℕ) → Plan → ℕ → Replayed → Replayed
 changed_by kind p m b =
     if kind == promotion_kind then replay_promotion (promotion_at p m) b
-    else if kind == measurement_kind then drop_member (row_component (measurement_at p m)) (row_pivot (measurement_at p m)) b
+    else if kind == measurement_kind then drop_member (row_component (measurement_at p m)) (measurement_pivot (measurement_at p m)) b
     else b
 
 unfoldable pub replay_joined : Plan → ℕ → Replayed → Replayed
@@ -239,6 +239,10 @@ pub record LocalBits (order component : List ℕ) (x z local_x local_z j : ℕ) 
   pub x_bit : bit_at local_x j ≡ bit_at x position
   pub z_bit : bit_at local_z j ≡ bit_at z position
 
+-- the bin of a row, just after the row's join
+abbrev pub joined_bin : Plan → ℕ → List ℕ → List ℕ
+joined_bin p m row = replay_joined p m (replay_after p m) (row_component row)
+
 -- "Just after a join, with the roll still as before the record": the row's bin
 pub record JoinHolds (order support component row : List ℕ) (x z : ℕ) : Type 0 where
   pub whole_support : (a : ℕ) → Member a support → Member a component
@@ -256,8 +260,8 @@ pub record MeasurementJoin (p : Plan) (m : ℕ) (r : ActiveOrder) (width x z piv
   pub kind : kind_at p m ≡ measurement_kind
   pub holds : JoinHolds r.order (support_of width x z r.order) (joined_at p m (measurement_at p m)) (measurement_at p m) x z
   pub pivot_active : pivot < length r.order
-  pub pivot_local : row_pivot (measurement_at p m) < row_width (measurement_at p m)
-  pub pivot_same : get_or (joined_at p m (measurement_at p m)) (row_pivot (measurement_at p m)) 0 ≡ get_or r.order pivot 0
+  pub pivot_local : measurement_pivot (measurement_at p m) < row_width (measurement_at p m)
+  pub pivot_same : get_or (joined_at p m (measurement_at p m)) (measurement_pivot (measurement_at p m)) 0 ≡ get_or r.order pivot 0
 
 -- a rotation where nothing is active has no join
 unfoldable pub JoinClaim : Plan → ℕ → ActiveOrder → Instruction → Type 0

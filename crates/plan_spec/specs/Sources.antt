@@ -4,7 +4,7 @@ use Rattle.std.specs.Prelude.{ℕ, ◌+◌, ◌≤◌, ◌<◌, ◌≡◌, ◌�
 use Rattle.kernels.specs.Bits.{bit_at}
 use Rattle.records.specs.declared.Instruction.{Instruction}
 use Rattle.records.specs.declared.Instruction.TheVariants.{Rotation, Promotion, RecordMeasurement, RecordDetector, Measurement, Expectation, DormantBranch}
-use Rattle.plan_spec.specs.Rows.{rotation_kind, measurement_kind, row_component, merge_offset, merge_count}
+use Rattle.plan_spec.specs.Rows.{rotation_kind, measurement_kind, row_component, row_merge_offset, row_merge_count}
 use Rattle.plan_spec.specs.Components.{members_of}
 use Rattle.plan_spec.specs.Walk.{Walk, join_of}
 use Rattle.plan_spec.specs.Plan.{Plan}
@@ -52,7 +52,7 @@ JoinsListed w = (x z : ℕ) → 0 < length w.order → Sources w.order (members_
 -- the row of record m's join: its part lies inside the merge list and is the join's sources, of which the first is the row's component
 pub record Listed (p : Plan) (m kind : ℕ) (row order : List ℕ) (x z : ℕ) : Type 0 where
   pub kind_is : kind_at p m ≡ kind
-  pub inside : merge_offset row + merge_count row ≤ length p.merges
+  pub inside : row_merge_offset row + row_merge_count row ≤ length p.merges
   pub component : row_component row ≡ get_or (listed_by p row) 0 0
   pub sources : Sources order (replay_after p m) x z (listed_by p row)
 

@@ -12,7 +12,7 @@ use Rattle.kernels.specs.declared.active.PrecomputedActivePauliRotationKernel.{P
 use Rattle.kernels.specs.declared.active.PrecomputedActivePauliMeasurementKernel.{PrecomputedActivePauliMeasurementKernel}
 use Rattle.records.specs.declared.Instruction.{Instruction}
 use Rattle.records.specs.declared.Instruction.TheVariants.{Rotation, Promotion, RecordMeasurement, RecordDetector, Measurement, Expectation, DormantBranch}
-use Rattle.plan_spec.specs.Rows.{no_kind, ignored_kind, rotation_kind, promotion_kind, measurement_kind}
+use Rattle.plan_spec.specs.Rows.{no_kind, ignored_kind, rotation_kind, promotion_kind, measurement_kind, step_row}
 use Rattle.plan_spec.specs.Lists.{is_in, place_of, remove_at, numbers_from}
 use Rattle.plan_spec.specs.Components.{touched, sources_of, gathered, joined, joining_cost, live_dimension, local_mask, float_two}
 use Rattle.plan_spec.specs.WholeWorks.{WholeSums, first_sums, with_works, whole_joining_cost}
@@ -147,7 +147,7 @@ too_large limit j = is_none (dimension limit (length j.members))
 -- "kind (0 None, 1 IgnoredGlobalPhase, 2 Rotation, 3 Promotion, 4 Measurement) and payload"
 abbrev pub with_step : (kind payload : ℕ) → Written → Written
 with_step kind payload o =
-    record { steps = o.steps ++ (kind ∷ payload ∷ []); merges = o.merges; rotations = o.rotations; promotions = o.promotions; measurements = o.measurements }
+    record { steps = o.steps ++ step_row kind payload; merges = o.merges; rotations = o.rotations; promotions = o.promotions; measurements = o.measurements }
 
 -- the state as it was, with one step more, this dense work, so much of it more as a whole number, and so many quantum instructions
 abbrev pub kept_step : ℕ → Float → ℕ → ℕ → Walk → Walk
