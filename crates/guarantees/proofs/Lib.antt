@@ -1,3 +1,5 @@
 pub mod Numbers
 pub mod Leaving
+pub mod KernelFloats
+pub mod Planned
 pub mod Promised

@@ -24,7 +24,6 @@ use Rattle.component_plan.specs.Answer.{Answers}
 use Rattle.component_plan.specs.Demand.{plan_in}
 use Rattle.component_plan.proofs.Demand.{planned_pads, call_connected, call_sources, call_groups, call_works_agree, call_too_wide, call_dimensions, call_squares, call_under}
 use Rattle.midvokt.specs.Reply.{number_of}
-use Rattle.readers.proofs.Planned.{planned_back}
 use Rattle.store.proofs.Restoring.{call_written}
 use Rattle.stored_plan.proofs.RoundTrip.{file_is}
 use Rattle.stored_plan.proofs.Plans.{same_file}
@@ -32,6 +31,7 @@ use Rattle.optimizer.proofs.Left.{left}
 use Rattle.guarantees.specs.Calls.{Leaves}
 use Rattle.guarantees.specs.Promises.{ComponentsAreRight, SourcesAreListed, GroupsAreListed, WorksAgree, TooWideIsExact, PairsAreUnits, DimensionsFit, PlanIsKept, NoOtherPlan, RowsAreRead, StoredIsReadBack, FileIsOne, PlanIsOne, ListIsKept}
 use Rattle.guarantees.proofs.Leaving.{said}
+use Rattle.guarantees.proofs.Planned.{planned_back}
 
 pub components : ComponentsAreRight
 components h ws before after p leaves read m within =

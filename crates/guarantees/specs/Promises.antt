@@ -14,7 +14,6 @@ use Rattle.plan_spec.specs.Groups.{GroupsListed}
 use Rattle.plan_spec.specs.Laws.{Agree, TooWideExactly, HasDimensions, under, HoldsPlan}
 use Rattle.plan_buffers.specs.Outputs.{Buffers, lengths_of}
 use Rattle.plan_buffers.specs.declared.WordCounts.{WordCounts}
-use Rattle.readers.specs.Back.{GivenBack}
 use Rattle.file_words.specs.Laws.{Bytes}
 use Rattle.stored_plan.specs.Stored.{Kept, bytes_of, file_of}
 use Rattle.stored_plan.specs.Reading.{restored, read_file}
@@ -26,6 +25,7 @@ use Rattle.optimizer.specs.declared.Counts.{Counts}
 use Rattle.optimizer.specs.Answer as Optimizing
 use Rattle.optimizer.specs.Laws.{Left}
 use Rattle.guarantees.specs.Calls.{Leaves, IsRead}
+use Rattle.guarantees.specs.Back.{GivenBack}
 
 -- what holds of the plan p that any call for a head and record words leaves, where the records are read
 abbrev pub OfPlans : (Head → List ℕ → Plan → Type 0) → Type 0
@@ -73,7 +73,7 @@ NoOtherPlan =
     (h : Head) (ws : List ℕ) (before after before' after' : Buffers) (p q : Plan) (ceiling : ℕ) → lengths_of before' ≡ lengths_of before
     → Leaves h ws before after (Some p) → Leaves (under ceiling h) ws before' after' (Some q) → (q ≡ p) × HoldsPlan ceiling h p
 
--- what the readers give for record i is what the definition's walk gives there
+-- what is read for record i is what the definition's walk gives there
 abbrev pub RowsAreRead : Type 0
 RowsAreRead =
     (h : Head) (ws : List ℕ) (before after : Buffers) (p : Plan) → Leaves h ws before after (Some p) → IsRead h → (i : ℕ) → i < length (instructions_of ws)

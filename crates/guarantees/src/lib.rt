@@ -37,7 +37,7 @@ pub fn ceilings()
     ensures no_other { NoOtherPlan }
 {}
 
-/// What the readers give for a record is what the definition's walk gives there.
+/// What is read of a plan for a record is what the definition's walk gives there.
 pub fn rows()
     ensures { RowsAreRead }
 {}

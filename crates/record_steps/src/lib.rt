@@ -9,6 +9,7 @@ ghost use Rattle.refusals.specs.Answer.{answer_of, given};
 ghost use Rattle.work_sums.specs.Tally.{joining_of};
 ghost use Rattle.record_steps.specs.RecordSteps.{sources_at, GatherFits, WhereJoined, Opened, progress_of, local_action_of, Settled, JoinedFits, pivot_answer, rotation_answer, RotationDone, measurement_answer, MeasurementDone, PromotionFits, PromotionDone};
 ghost use Rattle.plan_spec.specs.Rows.{measurement_words, rotation_words};
+ghost use Rattle.plan_rows.specs.Steps.{kind_number};
 
 use kernels::active::{
     ActivePauliAction, Angle, PrecomputedActivePauliMeasurementKernel,
@@ -132,10 +133,10 @@ fn head_of(join: Joining, tally: Tally) -> RowHead
 
 // The step of a record whose row has this number.
 fn step_of(kind: StepKind, row: usize) -> Step
-    ensures { result ≡ record { kind = kind; payload = row } }
+    ensures { result ≡ record { kind = kind_number kind; payload = row } }
 {
     Step {
-        kind,
+        kind: u64::from(kind),
         payload: row as u64,
     }
 }

@@ -95,7 +95,11 @@ fn put_kind(steps: &mut [u64], index: usize, kind: StepKind)
     requires { 2 * index + 2 ≤ length steps.old }
     ensures { steps.new ≡ patch (2 * index) (kind_number kind ∷ 0 ∷ []) steps.old }
 {
-    put(steps, index, Step { kind, payload: 0 });
+    let step = Step {
+        kind: u64::from(kind),
+        payload: 0,
+    };
+    put(steps, index, step);
 }
 
 // Makes a rotation behind its join, or gives refusal 14.
