@@ -82,7 +82,8 @@ rotation_in row =
 unfoldable pub measurement_in : List ℕ → MeasurementRow
 unfolding of_bits
 measurement_in row =
-    let coefficient = complex_in (measurement_coefficient_re row) (measurement_coefficient_im row) in
+    let coefficient =
+    complex_in (measurement_coefficient_re row) (measurement_coefficient_im row) in
     let kernel : PrecomputedActivePauliMeasurementKernel = record {
       action = action_in row;
       pivot = measurement_pivot row;

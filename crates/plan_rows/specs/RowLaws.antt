@@ -1,6 +1,7 @@
--- The proofs of the laws of `Row`, which its implementations name; nothing here is to be believed. A row has its type's number of words. And a row that was
--- written is read back as it was: word for word the reader takes what the writer put, a flag's word is set where the flag is, and the bits of a float that
--- binary64 holds are read as that float.
+-- The proofs of the laws of `Row`, which its implementations name; nothing here is to be believed.
+-- A row has its type's number of words. And a row that was written is read back as it was: word for
+-- word the reader takes what the writer put, a flag's word is set where the flag is, and the bits of
+-- a float that binary64 holds are read as that float.
 use mathlib.Core.Path.{◌≡◌, refl}
 use mathlib.Core.Bool.{Bool, true, false}
 use mathlib.Core.List.{List, ◌++◌}
@@ -30,7 +31,8 @@ pub rotation_counted : (row : RotationRow) → length (rotation_written row) ≡
 rotation_counted row =
     rotation_row_length row.head.component row.head.merge_offset row.head.merge_count row.kernel
 
-pub measurement_counted : (row : MeasurementRow) → length (measurement_written row) ≡ measurement_words
+pub measurement_counted : (row : MeasurementRow)
+    → length (measurement_written row) ≡ measurement_words
 measurement_counted row =
     measurement_row_length
     row.head.component row.head.merge_offset row.head.merge_count row.kernel row.deactivated
@@ -48,7 +50,8 @@ complex_back : {c : Complex64} → ComplexIsExact c → complex_in (bits_word c.
 complex_back h d = record { re = float_back h.re d; im = float_back h.im d }
 
 -- the first eleven words, whatever follows them
-action_back : (head : RowHead) (a : ActivePauliAction) (rest : List ℕ) → ActionIsExact a → action_in (head_written head a ++ rest) ≡ a
+action_back : (head : RowHead) (a : ActivePauliAction) (rest : List ℕ) → ActionIsExact a
+    → action_in (head_written head a ++ rest) ≡ a
 unfolding row_head
 action_back head a rest h d = record {
   nqubits = a.nqubits;
@@ -62,7 +65,8 @@ action_back head a rest h d = record {
 pub step_back : (step : Step) → StepRowIsExact step → step_in (step_written step) ≡ step
 step_back step h = refl
 
-pub rotation_back : (row : RotationRow) → RotationRowIsExact row → rotation_in (rotation_written row) ≡ row
+pub rotation_back : (row : RotationRow) → RotationRowIsExact row
+    → rotation_in (rotation_written row) ≡ row
 unfolding rotation_in rotation_row
 rotation_back row h d =
     let k = row.kernel in record {
@@ -81,7 +85,8 @@ rotation_back row h d =
       };
     }
 
-pub measurement_back : (row : MeasurementRow) → MeasurementRowIsExact row → measurement_in (measurement_written row) ≡ row
+pub measurement_back : (row : MeasurementRow) → MeasurementRowIsExact row
+    → measurement_in (measurement_written row) ≡ row
 unfolding measurement_in measurement_row
 measurement_back row h d =
     let k = row.kernel in record {

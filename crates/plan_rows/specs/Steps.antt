@@ -1,4 +1,4 @@
--- The kinds of a step as numbers. Written from 01, section 4, "kind (0 None, 1 IgnoredGlobalPhase, 2 Rotation, 3 Promotion, 4 Measurement)".
+-- The kinds of a step as numbers.
 use Rattle.std.specs.Prelude.{ℕ}
 use Rattle.plan_rows.specs.declared.StepKind.{StepKind}
 use Rattle.plan_rows.specs.declared.StepKind.TheVariants.{None, IgnoredGlobalPhase, Rotation, Promotion, Measurement}

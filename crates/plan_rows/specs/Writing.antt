@@ -3,7 +3,6 @@ use Rattle.std.specs.Prelude.{ℕ, List}
 use Rattle.kernels.specs.declared.active.ActivePauliAction.{ActivePauliAction}
 use Rattle.plan_spec.specs.Rows.{step_row}
 use Rattle.plan_spec.specs.Walk.{row_head, rotation_row, measurement_row}
-use Rattle.plan_rows.specs.Steps.{kind_number}
 use Rattle.plan_rows.specs.declared.RowHead.{RowHead}
 use Rattle.plan_rows.specs.declared.RotationRow.{RotationRow}
 use Rattle.plan_rows.specs.declared.MeasurementRow.{MeasurementRow}

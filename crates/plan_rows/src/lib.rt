@@ -1,5 +1,6 @@
-//! Rows as words. A row is written into the part of its buffer that begins at its number times its size: `put` lends that
-//! part, and each kind of row writes its words into the front of it. In `reading` words are read as rows again.
+//! Rows as words. A row is written into the part of its buffer that begins at its number times its
+//! size: `put` lends that part, and each kind of row writes its words into the front of it. In
+//! `reading` words are read as rows again.
 #![tactic(auto)]
 
 ghost use Rattle.std.specs.Prelude.{◌≡◌, ℕ, List, ◌++◌, ◌+◌, ◌*◌, ◌≤◌, length, get_or, drop};
@@ -20,7 +21,7 @@ use records::{float_bits, float_of};
 
 pub mod reading;
 
-/// A row: how many words it has, which words they are, how they are written, and what words are read as.
+/// A row: how many words it has, which words they are, and which row words say.
 pub trait Row: Copy {
     /// How many words each row of the type has.
     const WORDS: usize;
@@ -85,8 +86,8 @@ pub enum StepKind {
     Measurement,
 }
 
-/// The step of a record: the number of its kind, and the number of its row among the rows of that kind, or 0. Where a step
-/// is read, any number can stand for its kind.
+/// The step of a record: the number of its kind, and the number of its row among the rows of that
+/// kind, or 0. Where a step is read, any number can stand for its kind.
 #[derive(Clone, Copy, Debug, PartialEq, Eq)]
 pub struct Step {
     pub kind: u64,

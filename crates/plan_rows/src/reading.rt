@@ -1,5 +1,5 @@
-//! Words read as rows: a row's sources as a part of the merge list, steps and rows by their number, and rotation rows as a
-//! slice of structs.
+//! Words read as rows: a row's sources as a part of the merge list, steps and rows by their number,
+//! and rotation rows as a slice of structs.
 
 ghost use Rattle.std.specs.Prelude.{◌≡◌, length};
 ghost use Rattle.plan_rows.specs.Exact.{StepsComeBack, RotationsComeBack, MeasurementsComeBack};
@@ -7,7 +7,8 @@ ghost use Rattle.plan_rows.specs.Reading.{part_of, row_read, step_at, rotation_a
 
 use crate::{MeasurementRow, RotationRow, Row, Step};
 
-/// The part of the merge list from offset on, of count words; where it runs past the end, an empty part.
+/// The part of the merge list from offset on, of count words; where it runs past the end, an empty
+/// part.
 pub fn merge_sources(merges: &[u64], offset: u64, count: u64) -> &[u64]
     ensures { result.now ≡ part_of merges.now offset count }
 {
@@ -28,9 +29,12 @@ pub fn read<R: Row>(rows: &[u64], number: u64) -> Option<R>
 
 /// What `read` gives at the three types: the step, rotation or measurement of the number.
 pub fn reads()
-    ensures steps { row_read ⟦<Step as Row>⟧.WORDS ⟦<Step as Row>⟧.value ≡ step_at }
-    ensures rotations { row_read ⟦<RotationRow as Row>⟧.WORDS ⟦<RotationRow as Row>⟧.value ≡ rotation_at }
-    ensures measurements { row_read ⟦<MeasurementRow as Row>⟧.WORDS ⟦<MeasurementRow as Row>⟧.value ≡ measurement_at }
+    ensures steps { let row = ⟦<Step as Row>⟧ in
+        row_read row.WORDS row.value ≡ step_at }
+    ensures rotations { let row = ⟦<RotationRow as Row>⟧ in
+        row_read row.WORDS row.value ≡ rotation_at }
+    ensures measurements { let row = ⟦<MeasurementRow as Row>⟧ in
+        row_read row.WORDS row.value ≡ measurement_at }
 {}
 
 /// A row that is written is read back as it was, where binary64 holds its floats.
@@ -47,7 +51,8 @@ fn rotation_or_zero(rotations: &[u64], i: usize) -> RotationRow
     read(rotations, i as u64).unwrap_or(RotationRow::from_words(&[]))
 }
 
-/// Fills a lent slice of row structs: struct i has the values of row i, and a struct past the last row is all zero.
+/// Fills a lent slice of row structs: struct i has the values of row i, and a struct past the last
+/// row is all zero.
 pub fn fill_rotation_rows(rotations: &[u64], rows: &mut [RotationRow])
     ensures { rows.new ≡ filled_rows (length rows.old) rotations.now }
 {
