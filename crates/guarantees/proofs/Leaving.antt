@@ -68,7 +68,7 @@ answer_there p =
 -- ---- the words of a reply
 
 -- a word that there is room for
-word_there : (n : ℕ) (ws : List ℕ) (i : ℕ) → i < n → get_or (laid_out n ws) i 0 ≡ get_or ws i 0
+pub word_there : (n : ℕ) (ws : List ℕ) (i : ℕ) → i < n → get_or (laid_out n ws) i 0 ≡ get_or ws i 0
 word_there n ws i h =
     let f = λ (k : ℕ). get_or ws k 0 in
     let l = length-numbers 0 n in

@@ -2,4 +2,9 @@ pub mod Numbers
 pub mod Leaving
 pub mod KernelFloats
 pub mod Planned
+pub mod Refusing
+pub mod Saying
+pub mod Filing
+pub mod Listing
+pub mod Unchanged
 pub mod Promised

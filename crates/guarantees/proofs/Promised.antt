@@ -4,7 +4,7 @@ use Prim.Native.Nat.{ℕ, ◌/◌, ◌<◌}
 use native.Mathlib.Omega.{arith}
 use mathlib.Core.Path.{◌≡◌, sym, ap, ◌∙◌, subst, subst₂}
 use mathlib.Core.List.{List}
-use lib.ListN.{length}
+use lib.ListN.{length, take}
 use Rattle.records.specs.Record.{instructions_of}
 use Rattle.records.specs.declared.Head.{Head}
 use Rattle.refusals.specs.declared.Refusal.{Refusal}
@@ -12,26 +12,43 @@ use Rattle.plan_spec.specs.Plan.{Plan, Result, planned, plan_of}
 use Rattle.plan_spec.specs.Connectivity.{Connected, replay_after}
 use Rattle.plan_spec.specs.Sources.{SourcesListed}
 use Rattle.plan_spec.specs.Groups.{GroupsListed}
-use Rattle.plan_spec.specs.Laws.{Agree, TooWideExactly, HasDimensions, under, HoldsPlan}
+use Rattle.plan_spec.specs.Walk.{start}
+use Rattle.plan_spec.specs.Laws.{Agree, TooWideExactly, NonNegative, HasDimensions, under, HoldsPlan}
+use Rattle.plan_spec.proofs.Steps.{run_of_walk}
+use Rattle.plan_spec.proofs.Growth.{refused_index}
+use Rattle.plan_spec.proofs.Sources.{sources_unique}
+use Rattle.plan_spec.proofs.Groups.{groups_unique}
+use Rattle.plan_spec.proofs.States.{reached_whole}
+use Rattle.plan_spec.proofs.Room.{plan_fits}
 use Rattle.plan_spec.proofs.Connected.{read_head}
 use Rattle.plan_spec.proofs.Padded.{zeroed_at}
 use Rattle.plan_spec.proofs.Under.{same_plan, no_other}
 use Rattle.plan_buffers.specs.Outputs.{Buffers, lengths_of}
+use Rattle.plan_buffers.specs.Stored as Six
 use Rattle.plan_buffers.specs.declared.WordCounts.{WordCounts}
 use Rattle.answer.specs.declared.ActiveComponentPlan.{ActiveComponentPlan}
+use Rattle.lent.specs.Lent.{Held}
 use Rattle.answer.specs.Outcome.{used_in, outcome_of, outcome_in}
 use Rattle.component_plan.specs.Answer.{Answers}
 use Rattle.component_plan.specs.Demand.{plan_in}
 use Rattle.component_plan.proofs.Demand.{planned_pads, call_connected, call_sources, call_groups, call_works_agree, call_too_wide, call_dimensions, call_squares, call_under}
 use Rattle.midvokt.specs.Reply.{number_of}
 use Rattle.store.proofs.Restoring.{call_written}
+use Rattle.stored_plan.specs.Stored.{kept_of}
+use Rattle.stored_plan.specs.Reading.{read_file}
 use Rattle.stored_plan.proofs.RoundTrip.{file_is}
-use Rattle.stored_plan.proofs.Plans.{same_file}
+use Rattle.stored_plan.proofs.Plans.{file_most, plan_restored, same_file}
 use Rattle.optimizer.proofs.Left.{left}
 use Rattle.guarantees.specs.Calls.{Leaves}
-use Rattle.guarantees.specs.Promises.{ComponentsAreRight, SourcesAreListed, GroupsAreListed, WorksAgree, TooWideIsExact, PairsAreUnits, DimensionsFit, PlanIsKept, NoOtherPlan, RowsAreRead, StoredIsReadBack, FileIsOne, PlanIsOne, ListIsKept}
+use Rattle.guarantees.specs.Promises.{ComponentsAreRight, SourcesAreListed, SourcesAreUnique, GroupsAreListed, GroupsAreUnique, WorksAgree, TooWideIsExact, WorksAreNotNegative, PairsAreUnits, DimensionsFit, PlanIsKept, NoOtherPlan, SaysNothing, UnreadSaysNothing, RoomIsEnough, GuardsNeverFail, RefusalIsPlaced, RefusalLeavesZeros, RowsAreRead, PartsAreRead, StoredIsReadBack, FileIsShort, FileIsOne, PlanIsOne, ListIsKept, ExpectationKeepsList}
+use Rattle.guarantees.proofs.Numbers.{refused_number}
 use Rattle.guarantees.proofs.Leaving.{said}
-use Rattle.guarantees.proofs.Planned.{planned_back}
+use Rattle.guarantees.proofs.Planned.{planned_back, listed_part}
+use Rattle.guarantees.proofs.Refusing.{refusal_told, zeros_left}
+use Rattle.guarantees.proofs.Saying.{works_not_negative, unread_says, unread_held}
+use Rattle.guarantees.proofs.Filing.{file_answer, kept_read, kept_is}
+use Rattle.guarantees.proofs.Listing.{list_answer}
+use Rattle.guarantees.proofs.Unchanged.{list_unchanged}
 
 pub components : ComponentsAreRight
 components h ws before after p leaves read m within =
@@ -49,11 +66,17 @@ sources h ws before after p q leaves read is =
     subst₂ (λ (x : Plan) (n : WordCounts). SourcesListed h.initial_k (instructions_of ws) x (n.rotations / 21) (n.measurements / 19)) s.same used
     (call_sources h ws before after s.answer s.answers read.wide read.no_values)
 
+pub one_sources : SourcesAreUnique
+one_sources order held x z xs ys s t = sources_unique s t
+
 pub groups : GroupsAreListed
 groups h ws before after p leaves read =
     let s = said h ws before after p leaves in
     subst (λ (q : Plan). (zeros : ℕ) × GroupsListed (replay_after q (length (instructions_of ws))) zeros q.groups) s.same
     (call_groups h ws before after s.answer s.answers read.wide read.no_values)
+
+pub one_groups : GroupsAreUnique
+one_groups = groups_unique
 
 pub works_agree : WorksAgree
 works_agree h ws before after p leaves =
@@ -64,6 +87,22 @@ pub too_wide : TooWideIsExact
 too_wide h ws before after p leaves read =
     let s = said h ws before after p leaves in
     subst (λ (q : Plan). TooWideExactly h.initial_k (instructions_of ws) q.whole_works) s.same (call_too_wide h ws before after s.answer s.answers read.wide read.no_values)
+
+-- an answer that is a plan has the works of the definition's
+works_same : (p : Plan) (r : ActiveComponentPlan) → outcome_of (Ok r) ≡ outcome_in (planned p)
+    → NonNegative p.dense_work × NonNegative p.component_work → NonNegative r.estimated_dense_work × NonNegative r.estimated_component_work
+works_same p r e works =
+    let dense : p.dense_work ≡ r.estimated_dense_work = cc in
+    let component : p.component_work ≡ r.estimated_component_work = cc in
+    (subst NonNegative dense works.0, subst NonNegative component works.1)
+
+pub not_negative : WorksAreNotNegative
+not_negative h ws before after p leaves =
+    let l = lengths_of before in
+    let s = said h ws before after p leaves in
+    let found = planned_pads (plan_of h ws l) before after s.answer s.answers.answer s.answers.held in
+    subst (λ (q : Plan). NonNegative q.dense_work × NonNegative q.component_work) s.same
+    (works_same found.0 s.answer (s.answers.answer ∙ ap outcome_in found.1) (works_not_negative h ws l found.0 found.1))
 
 pub pairs : PairsAreUnits
 pairs h ws before after p leaves read = let s = said h ws before after p leaves in call_squares h ws before after s.answer s.answers read.wide read.no_values
@@ -144,20 +183,95 @@ no_other_plan h ws before after before' after' p q ceiling lengths leaves other 
       subst (HoldsPlan ceiling h) s.same here,
     )
 
+-- ---- plans that read no record, room, guards
+
+-- an answer that says what a plan says that says nothing
+says_same : (h : Head) (p : Plan) (r : ActiveComponentPlan) (after : Buffers) → outcome_of (Ok r) ≡ outcome_in (planned p) → SaysNothing h p → SaysNothing h (plan_in r after)
+says_same h p r after e s = record {
+  selected = cc;
+  initial_components = cc;
+  component_count = cc;
+  dense_work = cc;
+  component_work = cc;
+  dense_peak = cc;
+  peak = cc;
+  allocated = cc;
+  whole_works = cc;
+}
+
+pub unread_empty : UnreadSaysNothing
+unread_empty h ws before after p leaves u =
+    let l = lengths_of before in
+    let s = said h ws before after p leaves in
+    let found = planned_pads (plan_of h ws l) before after s.answer s.answers.answer s.answers.held in
+    let q = unread_says h ws l found.0 u found.1 in
+    let held = subst (λ (x : Result). Held x before after) (found.1 ∙ ap planned q.1) s.answers.held in (
+      subst (SaysNothing h) s.same (says_same h (found.0) s.answer after (s.answers.answer ∙ ap outcome_in found.1) q.2),
+      unread_held h.initial_k q.0 before after held,
+    )
+
+pub room : RoomIsEnough
+room h ws before p e = plan_fits h ws (lengths_of before) p e
+
+pub guards : GuardsNeverFail
+guards h ws m w e = reached_whole h.initial_k (run_of_walk h.ceiling 0 (start h.initial_k) w (take m (instructions_of ws)) e)
+
+-- ---- refusals
+
+pub placed : RefusalIsPlaced
+placed h ws before after number index refuses =
+    let l = lengths_of before in
+    let is = refusal_told h ws before after number index refuses in (
+      refused_number h ws l number index is,
+      refused_index h ws l number index is,
+    )
+
+pub zeroed_buffers : RefusalLeavesZeros
+zeroed_buffers = zeros_left
+
 -- ---- rows, files, lists
 
 pub rows : RowsAreRead
 rows h ws before after p leaves read i below =
     let s = said h ws before after p leaves in planned_back h ws before after s.answer s.answers (read_head h read.wide read.no_values) i below
 
+pub parts : PartsAreRead
+parts = listed_part
+
 pub stored : StoredIsReadBack
-stored = call_written
+stored h ws before after file filed n small leaves =
+    let a = file_answer h ws before after file filed n leaves in
+    let w = call_written h ws before after file filed n small a in
+    let p = w.0 in (
+      p,
+      w.1,
+      record {
+        bytes = w.2.file;
+        returned = w.2.returned;
+        trailer = w.2.trailer;
+        back = λ lent left o long loads.
+            kept_read (take n filed) lent left (kept_of p) o
+            (ap (λ (f : List ℕ). read_file f (Six.lengths_of lent)) w.2.file ∙ plan_restored h ws (lengths_of before) p small w.1 (Six.lengths_of lent) long) loads;
+      },
+    )
+
+pub short_file : FileIsShort
+short_file h ws before after file filed n small leaves =
+    let a = file_answer h ws before after file filed n leaves in
+    let w = call_written h ws before after file filed n small a in
+    let most = file_most h ws (lengths_of before) w.0 small w.1 in
+    let count = w.2.returned in omega arith
 
 pub one_file : FileIsOne
-one_file = file_is
+one_file file before after k bytes leaves = file_is file (Six.lengths_of before) k bytes (kept_is file before after k leaves)
 
 pub one_program : PlanIsOne
 one_program h h' ws ws' before before' p q small small' e e' = same_file h ws (lengths_of before) p small e h' ws' (lengths_of before') q small' e'
 
 pub lists : ListIsKept
-lists = left
+lists width words prefixes list_before list map_before map r leaves =
+    left width words prefixes list_before list map_before map r (list_answer width words prefixes list_before list map_before map r leaves)
+
+pub unchanged : ExpectationKeepsList
+unchanged width words prefixes list_before list map_before map r leaves has =
+    list_unchanged width words prefixes list_before list map_before map r (list_answer width words prefixes list_before list map_before map r leaves) has

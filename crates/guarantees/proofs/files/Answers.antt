@@ -4,6 +4,9 @@ use Rattle.guarantees.proofs.files.Goals as goal
 pub returns-clause-back : goal.returns-clause-back
 returns-clause-back c = Promised.stored
 
+pub returns-clause-short : goal.returns-clause-short
+returns-clause-short c = Promised.short_file
+
 pub returns-clause-one_file : goal.returns-clause-one_file
 returns-clause-one_file c = Promised.one_file
 
