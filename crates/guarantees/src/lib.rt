@@ -3,7 +3,7 @@
 //! stand in the same order in `specs/Promises.antt`.
 //!
 //! A plan is what a call of `build_active_component_plan` leaves, or of `midvokt_plan`. A file is
-//! what a call of `store` leaves, or of `midvokt_store`, and `load` or `midvokt_load` reads it. A list
+//! what a call of `store` leaves, or of `midvokt_store`; `load` and `midvokt_load` read it. A list
 //! is what a call of `optimize_pending_operations` leaves, or of `midvokt_optimize`. So says
 //! `specs/Calls.antt`. That each of these calls gives what its definition gives stands in its own
 //! contract.
@@ -85,7 +85,7 @@ pub fn refusals()
 {}
 
 /// What the readers give of a plan for a record, its step, its row and the row's part of the merge
-/// list, is what the definition's walk gives there. That part is the list that `sources` speaks of.
+/// list, is what the definition's walk gives there. That part is the list of `sources`.
 pub fn rows()
     ensures given_back { RowsAreRead }
     ensures parts { PartsAreRead }
@@ -95,8 +95,8 @@ pub fn rows()
 
 /// A stored plan is loaded into all outputs that are long enough, every field and every word, and
 /// its file has at most as many bytes as the header says for so many records. Bytes that load at
-/// all are the file of what they give back, so a plan has one file. Plans with the same file are the
-/// same in all that is stored, so a file has one plan.
+/// all are the file of what they give back, so a plan has one file. Plans with the same file are
+/// the same in all that is stored, so a file has one plan.
 pub fn files()
     ensures back { StoredIsReadBack }
     ensures short { FileIsShort }
