@@ -1,24 +1,32 @@
--- What an answer says, the code's and the definition's: the values of a plan's fields, or the refusal.
-use Rattle.std.specs.Prelude.{ℕ, length, Bool, Float, Result as Answered, Ok, Err}
-use Rattle.plan_spec.specs.WholeWorks.{WholeWorks}
-use Rattle.plan_spec.specs.Plan.{Plan, Result, planned, refused_at}
-use Rattle.work_sums.specs.Tally.{works_of}
+-- What an answer says, the code's and the definition's: the values of a plan's fields, or the
+-- refusal.
+use Rattle.std.specs.Prelude.{ℕ, ◌*◌, ◌^◌, ◌<◌, length, Bool, Float, Result as Answered, Ok, Err}
+use Rattle.plan_spec.specs.Rows.{measurement_words, rotation_words}
+use Rattle.plan_spec.specs.WholeWorks.{WholeWorks, whole_works_of}
+use Rattle.plan_spec.specs.Plan.{Plan, Result, planned, refused_at, chosen}
+use Rattle.work_sums.specs.declared.Tally.{Tally}
+use Rattle.work_sums.specs.Tally.{works_of, whole_sums_of}
 use Rattle.plan_buffers.specs.declared.WordCounts.{WordCounts}
+use Rattle.walk.specs.declared.Summary.{Summary}
 use Rattle.refusals.specs.Numbers.{number_of}
 use Rattle.refusals.specs.declared.Refusal.{Refusal}
 use Rattle.answer.specs.declared.ActiveComponentPlan.{ActiveComponentPlan}
 
--- "The result's eight scalar fields, in order", 02's whole works (CR 1) and how many words of the first six outputs are used (CR 2), or "its number and record
--- index"
+-- "The result's eight scalar fields, in order", 02's whole works (CR 1) and how many words of the
+-- first six outputs are used (CR 2), or "its number and record index"
 pub data Outcome : Type 0 where
-  accepted : (selected : Bool) (initial_components component_count : ℕ) (dense_work component_work : Float) (dense_peak peak allocated : ℕ) (whole : WholeWorks) (used : WordCounts) → Outcome
+  accepted : (selected : Bool) (initial_components component_count : ℕ)
+      (dense_work component_work : Float) (dense_peak peak allocated : ℕ)
+      (whole : WholeWorks) (used : WordCounts) → Outcome
   turned_away : (number index : ℕ) → Outcome
 
 -- of the code's answer
 abbrev pub outcome_of : Answered ActiveComponentPlan Refusal → Outcome
 outcome_of (Ok p) =
-    accepted p.selected p.initial_components p.component_count p.estimated_dense_work p.estimated_component_work
-    p.dense_peak_dimension p.component_peak_live_dimension p.component_allocated_dimension (works_of p.whole_works) p.used
+    accepted p.selected p.initial_components p.component_count
+    p.estimated_dense_work p.estimated_component_work
+    p.dense_peak_dimension p.component_peak_live_dimension p.component_allocated_dimension
+    (works_of p.whole_works) p.used
 outcome_of (Err refusal) = turned_away (number_of refusal.reason) refusal.index
 
 -- how many words of the first six outputs a plan uses
@@ -35,5 +43,46 @@ used_in p = record {
 -- of the definition's result
 abbrev pub outcome_in : Result → Outcome
 outcome_in (planned p) =
-    accepted p.selected p.initial_components p.component_count p.dense_work p.component_work p.dense_peak p.peak p.allocated p.whole_works (used_in p)
+    accepted p.selected p.initial_components p.component_count
+    p.dense_work p.component_work p.dense_peak p.peak p.allocated p.whole_works (used_in p)
 outcome_in (refused_at number index) = turned_away number index
+
+-- ---- from a finished walk over n records
+
+-- how many words it uses of the first six outputs
+abbrev pub used_by : Summary → ℕ → WordCounts
+used_by done n = record {
+  steps = 2 * n;
+  merges = done.tally.merges;
+  sizes = done.count;
+  rotations = rotation_words * done.tally.rotations;
+  promotions = done.tally.promotions;
+  measurements = measurement_words * done.tally.measurements;
+}
+
+-- those that are multiplied fit a word
+pub record UsedFit (done : Summary) (n : ℕ) : Type 0 where
+  pub steps : 2 * n < 2 ^ 64
+  pub rotations : rotation_words * done.tally.rotations < 2 ^ 64
+  pub measurements : measurement_words * done.tally.measurements < 2 ^ 64
+
+-- what its answer says, where its sizes allocate so much
+abbrev pub finished_outcome : (initial dense_peak : ℕ) → Summary → (n allocated : ℕ) → Outcome
+finished_outcome initial dense_peak done n allocated =
+    let t = done.tally in
+    accepted (chosen t.quantum t.dense t.work allocated dense_peak)
+    initial done.count t.dense t.work dense_peak t.peak allocated
+    (whole_works_of (whole_sums_of t)) (used_by done n)
+
+-- ---- with no record read
+
+-- no words
+abbrev pub no_counts : WordCounts
+no_counts = record {
+  steps = 0;
+  merges = 0;
+  sizes = 0;
+  rotations = 0;
+  promotions = 0;
+  measurements = 0;
+}

@@ -1,21 +1,19 @@
-//! The planner's answer where it refuses nothing: the scalar fields of a plan with its whole works and the words it uses; and the
-//! two ways a plan comes about, from a finished walk and with no record read.
+//! The planner's answer where it refuses nothing: the scalar fields of a plan with its whole
+//! works and the words it uses; the choice; and the two ways a plan comes about, from a finished
+//! walk and with no record read.
 #![tactic(auto)]
 
-ghost use Rattle.std.specs.Prelude.{◌≡◌, false, pos, ◌*◌, Ok};
+ghost use Rattle.std.specs.Prelude.{◌≡◌, false, pos, Ok};
 ghost use Rattle.std.specs.Float.{fin};
-ghost use Rattle.plan_spec.specs.Rows.{measurement_words, rotation_words};
-ghost use Rattle.plan_spec.specs.WholeWorks.{whole_works_of};
 ghost use Rattle.plan_spec.specs.Plan.{chosen};
-ghost use Rattle.lent.specs.Lent.{UsedFit};
-ghost use Rattle.answer.specs.Outcome.{accepted, outcome_of};
+ghost use Rattle.answer.specs.Outcome.{finished_outcome, no_counts, outcome_of, UsedFit};
 
-use lent::choose;
 use plan_buffers::{MEASUREMENT_WORDS, ROTATION_WORDS, WordCounts};
 use work_sums::WholeWorks;
 use walk::Summary;
 
-/// The scalar fields of a plan, its works as whole numbers, and how many words of the first six outputs it uses.
+/// The scalar fields of a plan, its works as whole numbers, and how many words of the first six
+/// outputs it uses.
 #[derive(Clone, Copy, Debug, PartialEq)]
 pub struct ActiveComponentPlan {
     pub selected: bool,
@@ -42,7 +40,7 @@ pub fn unread_plan(initial_k: u64, dense_peak: u64) -> ActiveComponentPlan
       component_peak_live_dimension = 0;
       component_allocated_dimension = 0;
       whole_works = WholeWorks.WithoutQuotient 0;
-      used = record { steps = 0; merges = 0; sizes = 0; rotations = 0; promotions = 0; measurements = 0 };
+      used = no_counts;
     } }
 {
     ActiveComponentPlan {
@@ -59,8 +57,24 @@ pub fn unread_plan(initial_k: u64, dense_peak: u64) -> ActiveComponentPlan
     }
 }
 
+/// Whether the component path is worth its cost.
+pub fn choose(quantum: u64, dense: f64, component: f64, allocated: u64, dense_peak: u64) -> bool
+    ensures { result ≡ chosen quantum dense component allocated dense_peak }
+{
+    if quantum < 4 {
+        return false;
+    }
+    if !(1.8 * component <= dense) {
+        return false;
+    }
+    if !(8192.0 <= dense - component) {
+        return false;
+    }
+    std::num::nearest_u64_to_f64(allocated) <= 1.25 * std::num::nearest_u64_to_f64(dense_peak)
+}
+
 /// The scalar fields of the plan of a finished walk over n records.
-pub fn plan_of(
+pub fn finished_plan(
     initial_k: u64,
     dense_peak: u64,
     done: Summary,
@@ -68,10 +82,7 @@ pub fn plan_of(
     allocated: u64,
 ) -> ActiveComponentPlan
     requires { UsedFit done n }
-    ensures { outcome_of (Ok result)
-        ≡ accepted (chosen done.tally.quantum done.tally.dense done.tally.work allocated dense_peak) initial_k done.count done.tally.dense done.tally.work dense_peak done.tally.peak allocated
-        (whole_works_of (record { dense = done.tally.whole_dense; component = done.tally.whole_work; widest = done.tally.widest }))
-        (record { steps = 2 * n; merges = done.tally.merges; sizes = done.count; rotations = rotation_words * done.tally.rotations; promotions = done.tally.promotions; measurements = measurement_words * done.tally.measurements }) }
+    ensures { outcome_of (Ok result) ≡ finished_outcome initial_k dense_peak done n allocated }
 {
     let tally = done.tally;
     ActiveComponentPlan {

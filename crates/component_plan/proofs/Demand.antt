@@ -11,7 +11,7 @@ use Rattle.records.specs.Record.{kind, sine, cosine, record_at, instructions_of}
 use Rattle.records.specs.Sound.{UnitPair}
 use Rattle.records.specs.declared.Head.{Head}
 use Rattle.plan_spec.specs.WholeWorks.{WholeWorks}
-use Rattle.plan_spec.specs.Plan.{Lengths, Plan, Result, planned, refused_at, plan_of, padded}
+use Rattle.plan_spec.specs.Plan.{Lengths, Plan, Result, planned, refused_at, plan_of}
 use Rattle.plan_spec.specs.Connectivity.{Connected, replay_after}
 use Rattle.plan_spec.specs.Sources.{SourcesListed}
 use Rattle.plan_spec.specs.Groups.{GroupsListed}
@@ -26,10 +26,9 @@ use Rattle.plan_spec.proofs.WholeWorks.{works_agree, too_wide_exactly}
 use Rattle.plan_spec.proofs.Under.{plan_dimensions, dimensions_padded, same_plan}
 use Rattle.work_sums.specs.Tally.{works_of}
 use Rattle.plan_buffers.specs.declared.WordCounts.{WordCounts}
-use Rattle.plan_buffers.specs.Outputs.{Buffers, lengths_of}
+use Rattle.plan_buffers.specs.SevenBuffers.{Buffers, lengths_of, padded_buffers, result_words, Held}
 use Rattle.answer.specs.declared.ActiveComponentPlan.{ActiveComponentPlan}
 use Rattle.refusals.specs.declared.Refusal.{Refusal}
-use Rattle.lent.specs.Lent.{Held}
 use Rattle.answer.specs.Outcome.{used_in, outcome_of, outcome_in}
 use Rattle.component_plan.specs.Answer.{Answers}
 use Rattle.component_plan.specs.Demand.{plan_in}
@@ -49,12 +48,12 @@ planned_pads (planned p) before after r e held =
         component_count = count;
         peak = peak;
         allocated = allocated;
-        steps = (length before.steps, held.steps);
-        merges = (length before.merges, held.merges);
-        sizes = (length before.sizes, held.sizes);
-        rotations = (length before.rotations, held.rotations);
-        promotions = (length before.promotions, held.promotions);
-        measurements = (length before.measurements, held.measurements);
+        steps = (length before.steps, ap (λ (b : Buffers). b.steps) held);
+        merges = (length before.merges, ap (λ (b : Buffers). b.merges) held);
+        sizes = (length before.sizes, ap (λ (b : Buffers). b.sizes) held);
+        rotations = (length before.rotations, ap (λ (b : Buffers). b.rotations) held);
+        promotions = (length before.promotions, ap (λ (b : Buffers). b.promotions) held);
+        measurements = (length before.measurements, ap (λ (b : Buffers). b.measurements) held);
       },
     )
 planned_pads (refused_at number index) before after r e held = let z : ◌≡◌ {A = ℕ} 0 1 = cc in absurd (omega arith)
@@ -97,7 +96,7 @@ call_groups h ws before after r a wide none =
     let p = found.0 in
     let held = subst (λ (x : Result). Held x before after) found.1 a.held in
     let zeros = length before.groups - length p.groups in
-    (zeros, groups_padded h ws (lengths_of before) p (plan_in r after) (accepted h ws (lengths_of before) p (read_head h wide none) found.1) found.2 zeros held.groups)
+    (zeros, groups_padded h ws (lengths_of before) p (plan_in r after) (accepted h ws (lengths_of before) p (read_head h wide none) found.1) found.2 zeros (ap (λ (b : Buffers). b.groups) held))
 
 -- an answer that is a plan has the definition's works
 planned_works : (result : Result) (r : ActiveComponentPlan) → outcome_of (Ok r) ≡ outcome_in result
@@ -144,17 +143,10 @@ call_squares h ws before after r a wide none =
     rotation_squares h ws (lengths_of before) found.0 (read_head h wide none) found.1
 
 -- buffers of the same lengths hold the same after the same plan
-held_same : (p : Plan) (before after before' after' : Buffers) → lengths_of before' ≡ lengths_of before → Held (planned p) before after → Held (planned p) before' after' → after' ≡ after
+held_same : (p : Plan) (before after before' after' : Buffers) → lengths_of before' ≡ lengths_of before
+    → Held (planned p) before after → Held (planned p) before' after' → after' ≡ after
 held_same p before after before' after' same held held' =
-    λ j. record {
-      steps = (held'.steps ∙ ap (λ (l : Lengths). padded l.steps p.steps) same ∙ sym held.steps) j;
-      merges = (held'.merges ∙ ap (λ (l : Lengths). padded l.merges p.merges) same ∙ sym held.merges) j;
-      sizes = (held'.sizes ∙ ap (λ (l : Lengths). padded l.sizes p.sizes) same ∙ sym held.sizes) j;
-      rotations = (held'.rotations ∙ ap (λ (l : Lengths). padded l.rotations p.rotations) same ∙ sym held.rotations) j;
-      promotions = (held'.promotions ∙ ap (λ (l : Lengths). padded l.promotions p.promotions) same ∙ sym held.promotions) j;
-      measurements = (held'.measurements ∙ ap (λ (l : Lengths). padded l.measurements p.measurements) same ∙ sym held.measurements) j;
-      groups = (held'.groups ∙ ap (λ (l : Lengths). padded l.groups p.groups) same ∙ sym held.groups) j;
-    }
+    held' ∙ ap (λ (l : Lengths). padded_buffers l (result_words (planned p))) same ∙ sym held
 
 -- and under every other ceiling that is above max_k and above each size, a call gives the same answer and leaves the same words
 pub call_under : (h : Head) (ws : List ℕ) (before after : Buffers) (r : ActiveComponentPlan) → Answers h ws before after (Ok r)

@@ -1,4 +1,4 @@
--- What a buffer holds once the words behind the used ones are zeroed: the walk's words stand in front, so it holds them and zeros, as the definition's plan says. And
+-- What the buffers hold once the words behind the used ones are zeroed: the walk's words stand in front, so they hold these and zeros, as the definition's plan says. And
 -- the whole works that are kept modulo 2 ^ 64 are the definition's wherever they are given: there they are at most 2 ^ 51.
 use Prim.Native.Nat.{ℕ, ◌-◌, ◌*◌, ◌/◌, ◌%◌, ◌^◌, ◌<◌, ◌≤◌}
 use native.Mathlib.Omega.{arith}
@@ -21,20 +21,15 @@ use Rattle.plan_spec.proofs.Growth.{run_rotations, run_measurements, start_wide,
 use Rattle.plan_spec.proofs.WholeWorks.{reached_exactly}
 use Rattle.plan_spec.proofs.Room.{longest_count, steps_count, rows_most}
 use Rattle.walk.specs.declared.Summary.{Summary}
-use Rattle.plan_buffers.specs.Outputs.{Buffers, SameLengths}
+use Rattle.plan_buffers.specs.SevenBuffers.{Buffers, lengths_of, SameLengths, padded_buffers, first_words, result_words, Held}
 use Rattle.walk.specs.Walking.{Begins, Ended}
-use Rattle.lent.specs.Lent.{Held, RestCleared, UsedFit, cleared_from}
 use Rattle.plan_buffers.specs.declared.WordCounts.{WordCounts}
-use Rattle.answer.specs.Outcome.{used_in}
+use Rattle.work_sums.specs.Tally.{whole_sums_of}
+use Rattle.answer.specs.Outcome.{used_in, used_by, UsedFit}
 
--- one buffer of m words: ws stand in front, n of them, and what follows is zeroed
-pub cleared_is_padded : (m n : ℕ) (ws walked after : List ℕ) → length walked ≡ m → n ≡ length ws → Begins ws walked → after ≡ cleared_from n walked
-    → after ≡ padded m ws
-cleared_is_padded m n ws walked after same count front cleared =
-    cleared
-    ∙ ap (λ (k : ℕ). take k walked ++ replicate (length walked - k) 0) count
-    ∙ ap (λ (l : List ℕ). l ++ replicate (length walked - length ws) 0) front
-    ∙ ap (λ (k : ℕ). ws ++ replicate (k - length ws) 0) same
+-- n words of a buffer in whose front n words stand
+pub front_is : (n : ℕ) (ws xs : List ℕ) → n ≡ length ws → Begins ws xs → take n xs ≡ ws
+front_is n ws xs count front = ap (λ (k : ℕ). take k xs) count ∙ front
 
 -- the words that stand in front are no more than there are
 pub front_fits : (ws xs : List ℕ) → Begins ws xs → length ws ≤ length xs
@@ -84,7 +79,7 @@ module _ {limit : ℕ} (k : ℕ) (ws : List ℕ) (w : Walk) (run : Run limit (st
 
   -- the whole works are the definition's
   pub whole_same : length ws ≤ 8192
-      → whole_works_of (record { dense = s.tally.whole_dense; component = s.tally.whole_work; widest = s.tally.widest }) ≡ whole_works_of w.whole
+      → whole_works_of (whole_sums_of s.tally) ≡ whole_works_of w.whole
   whole_same few =
       whole_kept w.whole s.tally.whole_dense s.tally.whole_work s.tally.widest ended.sums.whole_dense ended.sums.whole_work ended.sums.widest
       (λ narrow. let l = instructions_length ws in
@@ -95,15 +90,7 @@ module _ {limit : ℕ} (k : ℕ) (ws : List ℕ) (w : Walk) (run : Run limit (st
   size_words = ended.count ∙ sym (longest_count k run)
 
   -- the used words are counted
-  pub used_same : (dense_peak : ℕ)
-      → ◌≡◌ {A = WordCounts} (record {
-        steps = 2 * (length ws / 8);
-        merges = s.tally.merges;
-        sizes = s.count;
-        rotations = 21 * s.tally.rotations;
-        promotions = s.tally.promotions;
-        measurements = 19 * s.tally.measurements;
-      }) (used_in (plan_from k dense_peak w))
+  pub used_same : (dense_peak : ℕ) → used_by s (length ws / 8) ≡ used_in (plan_from k dense_peak w)
   unfolding plan_from
   used_same dense_peak i = record {
     steps = step_words i;
@@ -114,16 +101,25 @@ module _ {limit : ℕ} (k : ℕ) (ws : List ℕ) (w : Walk) (run : Run limit (st
     measurements = measurement_words i;
   }
 
-  -- all seven
-  pub walk_held : (dense_peak : ℕ) (before after : Buffers) → SameLengths before walked → RestCleared s (length ws / 8) walked after
-      → Held (planned (plan_from k dense_peak w)) before after
+  -- so the first words of all seven are the plan's
+  first_same : (dense_peak : ℕ)
+      → first_words (used_by s (length ws / 8)) s.groups walked ≡ result_words (planned (plan_from k dense_peak w))
   unfolding plan_from
-  walk_held dense_peak before after same cleared = record {
-    steps = cleared_is_padded _ _ w.written.steps walked.steps _ same.steps step_words ended.steps cleared.steps;
-    merges = cleared_is_padded _ _ w.written.merges walked.merges _ same.merges ended.sums.merges ended.merges cleared.merges;
-    sizes = cleared_is_padded _ _ w.longest walked.sizes _ same.sizes size_words ended.sizes cleared.sizes;
-    rotations = cleared_is_padded _ _ (concat w.written.rotations) walked.rotations _ same.rotations rotation_words ended.rotations cleared.rotations;
-    promotions = cleared_is_padded _ _ w.written.promotions walked.promotions _ same.promotions ended.sums.promotions ended.promotions cleared.promotions;
-    measurements = cleared_is_padded _ _ (concat w.written.measurements) walked.measurements _ same.measurements measurement_words ended.measurements cleared.measurements;
-    groups = cleared_is_padded _ _ (groups_of w.components) walked.groups _ same.groups ended.used ended.groups cleared.groups;
+  first_same dense_peak i = record {
+    steps = front_is _ w.written.steps walked.steps step_words ended.steps i;
+    merges = front_is _ w.written.merges walked.merges ended.sums.merges ended.merges i;
+    sizes = front_is _ w.longest walked.sizes size_words ended.sizes i;
+    rotations = front_is _ (concat w.written.rotations) walked.rotations rotation_words ended.rotations i;
+    promotions = front_is _ w.written.promotions walked.promotions ended.sums.promotions ended.promotions i;
+    measurements = front_is _ (concat w.written.measurements) walked.measurements measurement_words ended.measurements i;
+    groups = front_is _ (groups_of w.components) walked.groups ended.used ended.groups i;
   }
+
+  -- and with zeros behind them they hold the plan
+  pub walk_held : (dense_peak : ℕ) (before after : Buffers) (used : WordCounts) → SameLengths before walked
+      → used ≡ used_by s (length ws / 8) → after ≡ padded_buffers (lengths_of walked) (first_words used s.groups walked)
+      → Held (planned (plan_from k dense_peak w)) before after
+  walk_held dense_peak before after used same counted cleared =
+      cleared
+      ∙ ap (λ (u : WordCounts). padded_buffers (lengths_of walked) (first_words u s.groups walked)) counted
+      ∙ ap₂ padded_buffers same (first_same dense_peak)

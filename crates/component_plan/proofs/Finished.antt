@@ -10,20 +10,20 @@ use Rattle.records.specs.Record.{instructions_of}
 use Rattle.records.specs.Pass.{Passed, record_pass}
 use Rattle.records.specs.declared.Head.{Head}
 use Rattle.plan_spec.specs.Components.{allocated_for}
-use Rattle.plan_spec.specs.WholeWorks.{whole_works_of}
 use Rattle.plan_spec.specs.Walk.{Walk, finished, start, walk_from}
-use Rattle.plan_spec.specs.Plan.{planned, chosen, plan_from, plan_read, buffers_refused, after_walk}
+use Rattle.plan_spec.specs.Plan.{plan_from, plan_read, buffers_refused, after_walk}
 use Rattle.plan_spec.proofs.Steps.{Run, run_of_walk}
 use Rattle.plan_spec.proofs.Sizes.{reached_longest}
 use Rattle.plan_buffers.specs.Buffers.{AllBelow}
-use Rattle.plan_buffers.specs.Outputs.{Buffers, lengths_of, SameLengths}
+use Rattle.plan_buffers.specs.SevenBuffers.{Buffers, lengths_of, SameLengths, padded_buffers, first_words}
 use Rattle.walk.specs.declared.Summary.{Summary}
 use Rattle.walk.specs.Walking.{Walkable, Ended, WalkEnds}
-use Rattle.lent.specs.Lent.{Held, RestCleared, UsedFit, lent_number}
+use Rattle.plan_buffers.specs.declared.WordCounts.{WordCounts}
 use Rattle.answer.specs.declared.ActiveComponentPlan.{ActiveComponentPlan}
-use Rattle.answer.specs.Outcome.{accepted, outcome_of}
+use Rattle.answer.specs.Outcome.{accepted, outcome_of, finished_outcome, used_by, UsedFit}
 use Rattle.component_plan.specs.Answer.{Filled}
-use Rattle.component_plan.proofs.Filled.{front_fits, front_of_padded, used_fit, used_same, whole_same, size_words, walk_held}
+use Rattle.component_plan.specs.Refusing.{lent_number}
+use Rattle.component_plan.proofs.Filled.{front_is, front_fits, used_fit, used_same, whole_same, size_words, walk_held}
 use Rattle.component_plan.proofs.Refusals.{lent_words, lent_few, lent_room, lent_initial, lent_passed, walk_finishes, filled_planned, plan_same}
 
 module _ (h : Head) (dense_peak : ℕ) (ws : List ℕ) (before : Buffers) (lent : 0 ≡ lent_number h.initial_k (length ws) (buffers_refused (length ws / 8) (lengths_of before)))
@@ -59,38 +59,28 @@ module _ (h : Head) (dense_peak : ℕ) (ws : List ℕ) (before : Buffers) (lent 
     sizes_counted = size_words h.initial_k ws ended.0 run done walked ended.2
 
     -- the sizes that are used lie in their buffer
-    pub sizes_inside : (cleared : Buffers) → SameLengths walked cleared → done.count ≤ length cleared.sizes
-    sizes_inside cleared same = let front = front_fits ended.0.longest walked.sizes ended.2.sizes in omega (arith, sizes_counted, same.sizes)
+    pub sizes_inside : done.count ≤ length walked.sizes
+    sizes_inside = let front = front_fits ended.0.longest walked.sizes ended.2.sizes in omega (arith, sizes_counted)
 
-    module _ (same : SameLengths before walked) (cleared : Buffers) (rest : RestCleared done (length ws / 8) walked cleared) where
-      held : Held (planned (plan_from h.initial_k dense_peak ended.0)) before cleared
-      held = walk_held h.initial_k ws ended.0 run done walked ended.2 dense_peak before cleared same rest
+    sizes_front : take done.count walked.sizes ≡ ended.0.longest
+    sizes_front = front_is done.count ended.0.longest walked.sizes sizes_counted ended.2.sizes
 
-      sizes_front : take done.count cleared.sizes ≡ ended.0.longest
-      unfolding plan_from
-      sizes_front = front_of_padded (length before.sizes) done.count ended.0.longest cleared.sizes sizes_counted held.sizes
+    -- no size reaches 64
+    pub sizes_below : AllBelow 64 (take done.count walked.sizes)
+    sizes_below i l = subst (λ (xs : List ℕ). get_or xs i 0 < 64) (sym sizes_front) (reached_longest 64 (omega arith) (omega arith) h.initial_k run i)
 
-      -- no size reaches 64
-      pub sizes_below : AllBelow 64 (take done.count cleared.sizes)
-      sizes_below i l = subst (λ (xs : List ℕ). get_or xs i 0 < 64) (sym sizes_front) (reached_longest 64 (omega arith) (omega arith) h.initial_k run i)
+    module _ (all : ℕ) (r : ActiveComponentPlan) (sum : all ≡ allocated_for (take done.count walked.sizes))
+        (made : outcome_of (Ok r) ≡ finished_outcome h.initial_k dense_peak done (length ws / 8) all) where
+      used_counted : r.used ≡ used_by done (length ws / 8)
+      used_counted = cc
 
       -- the answer is the definition's plan
-      pub filled : (all : ℕ) (r : ActiveComponentPlan) → all ≡ allocated_for (take done.count cleared.sizes)
-          → outcome_of (Ok r)
-          ≡ accepted (chosen done.tally.quantum done.tally.dense done.tally.work all dense_peak) h.initial_k done.count done.tally.dense done.tally.work dense_peak done.tally.peak all
-          (whole_works_of (record { dense = done.tally.whole_dense; component = done.tally.whole_work; widest = done.tally.widest }))
-          (record {
-            steps = 2 * (length ws / 8);
-            merges = done.tally.merges;
-            sizes = done.count;
-            rotations = 21 * done.tally.rotations;
-            promotions = done.tally.promotions;
-            measurements = 19 * done.tally.measurements;
-          })
+      pub filled : (cleared : Buffers) → SameLengths before walked
+          → cleared ≡ padded_buffers (lengths_of walked) (first_words r.used done.groups walked)
           → Filled (plan_read h ws (lengths_of before) dense_peak) before cleared (Ok r)
-      filled all r sum made =
+      filled cleared same rest =
           filled_planned (plan_read h ws (lengths_of before) dense_peak) before cleared (plan_from h.initial_k dense_peak ended.0) (Ok r)
           (read_walk ∙ ap (after_walk h.initial_k dense_peak) ended.1)
           (plan_same h.initial_k dense_peak ended.0 done walked all _ _ r ended.2 (sum ∙ ap allocated_for sizes_front)
           (whole_same h.initial_k ws ended.0 run done walked ended.2 few) (used_same h.initial_k ws ended.0 run done walked ended.2 dense_peak) made)
-          held
+          (walk_held h.initial_k ws ended.0 run done walked ended.2 dense_peak before cleared r.used same used_counted rest)

@@ -21,17 +21,17 @@ use Rattle.records.specs.declared.Head.{Head}
 use Rattle.plan_spec.specs.Components.{allocated_for}
 use Rattle.plan_spec.specs.WholeWorks.{WholeWorks, whole_works_of}
 use Rattle.plan_spec.specs.Walk.{Walk, Walked, finished, stopped}
-use Rattle.plan_spec.specs.Plan.{Lengths, Plan, Result, planned, refused_at, chosen, unread, unread_plan, plan_from, words_refused, buffers_refused, refuse_all, after_pass, plan_read, for_dense_peak, ceiling_refused, plan_of, held_after}
+use Rattle.plan_spec.specs.Plan.{Lengths, Plan, Result, planned, refused_at, chosen, unread, unread_plan, plan_from, words_refused, buffers_refused, refuse_all, after_pass, plan_read, for_dense_peak, ceiling_refused, plan_of}
 use Rattle.plan_spec.proofs.Steps.{cond_yes, cond_no}
 use Rattle.work_sums.specs.declared.WholeWorks.TheVariants as Whole
 use Rattle.answer.specs.declared.ActiveComponentPlan.{ActiveComponentPlan}
 use Rattle.walk.specs.declared.Summary.{Summary}
-use Rattle.plan_buffers.specs.Outputs.{Buffers, lengths_of, SameLengths}
+use Rattle.plan_buffers.specs.SevenBuffers.{Buffers, lengths_of, SameLengths, padded_buffers, no_words, Held}
 use Rattle.walk.specs.Walking.{Ended, WalkEnds}
-use Rattle.lent.specs.Lent.{peak_answer, head_answer, Held, lent_number}
 use Rattle.plan_buffers.specs.declared.WordCounts.{WordCounts}
 use Rattle.answer.specs.Outcome.{accepted, turned_away, outcome_of, used_in, outcome_in}
 use Rattle.component_plan.specs.Answer.{Answers, Filled}
+use Rattle.component_plan.specs.Refusing.{peak_answer, head_answer, lent_number}
 
 -- ---- refusals 2 to 4
 
@@ -149,32 +149,16 @@ unread_same initial dense_peak r e = ap (λ (p : ActiveComponentPlan). outcome_o
 
 -- ---- zeros
 
--- a refusal leaves zeros, whatever its number, in buffers as long
-pub zeros_held : (number index n i : ℕ) (before between after : Buffers) → SameLengths before between → Held (refused_at number index) between after
-    → Held (refused_at n i) before after
-zeros_held number index n i before between after same h = record {
-  steps = h.steps ∙ ap (λ (k : ℕ). held_after k (λ p. p.steps) (refused_at n i)) same.steps;
-  merges = h.merges ∙ ap (λ (k : ℕ). held_after k (λ p. p.merges) (refused_at n i)) same.merges;
-  sizes = h.sizes ∙ ap (λ (k : ℕ). held_after k (λ p. p.sizes) (refused_at n i)) same.sizes;
-  rotations = h.rotations ∙ ap (λ (k : ℕ). held_after k (λ p. p.rotations) (refused_at n i)) same.rotations;
-  promotions = h.promotions ∙ ap (λ (k : ℕ). held_after k (λ p. p.promotions) (refused_at n i)) same.promotions;
-  measurements = h.measurements ∙ ap (λ (k : ℕ). held_after k (λ p. p.measurements) (refused_at n i)) same.measurements;
-  groups = h.groups ∙ ap (λ (k : ℕ). held_after k (λ p. p.groups) (refused_at n i)) same.groups;
-}
+-- zeros in buffers as long
+pub zeros_held : (before between after : Buffers) → SameLengths before between
+    → after ≡ padded_buffers (lengths_of between) no_words → after ≡ padded_buffers (lengths_of before) no_words
+zeros_held before between after same zeros = zeros ∙ ap (λ (l : Lengths). padded_buffers l no_words) same
 
--- so does a plan that read nothing
-pub unread_held : (initial dense_peak number index : ℕ) (before after : Buffers) → Held (refused_at number index) before after
+-- a plan that read nothing has no words
+pub unread_held : (initial dense_peak : ℕ) (before after : Buffers) → after ≡ padded_buffers (lengths_of before) no_words
     → Held (planned (unread_plan initial dense_peak)) before after
 unfolding unread_plan
-unread_held initial dense_peak number index before after h = record {
-  steps = h.steps;
-  merges = h.merges;
-  sizes = h.sizes;
-  rotations = h.rotations;
-  promotions = h.promotions;
-  measurements = h.measurements;
-  groups = h.groups;
-}
+unread_held initial dense_peak before after zeros = zeros
 
 -- ---- the answer of the whole
 
@@ -225,13 +209,13 @@ planned_answers h ws before after (Err refusal) f e = let z : ◌≡◌ {A = ℕ
 
 pub refused_answers : (h : Head) (ws : List ℕ) (before between after : Buffers) (r : Answered ActiveComponentPlan Refusal)
     → Filled (plan_of h ws (lengths_of before)) before between r → is_err r ≡ true → SameLengths before between
-    → Held (refused_at 0 0) between after → Answers h ws before after r
+    → after ≡ padded_buffers (lengths_of between) no_words → Answers h ws before after r
 refused_answers h ws before between after (Ok x) f e same zeros = let z : ◌≡◌ {A = ℕ} 0 1 = cc in absurd (omega arith)
 refused_answers h ws before between after (Err refusal) f e same zeros =
     let number = number_of refusal.reason in
     let gone = away (plan_of h ws (lengths_of before)) number refusal.index f.answer in record {
       answer = f.answer;
-      held = subst (λ (y : Result). Held y before after) (sym gone) (zeros_held 0 0 number refusal.index before between after same zeros);
+      held = subst (λ (y : Result). Held y before after) (sym gone) (zeros_held before between after same zeros);
     }
 
 -- ---- which records are read

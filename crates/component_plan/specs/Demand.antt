@@ -1,10 +1,12 @@
--- The plan that a call hands back, read off what it leaves: the fields of its answer, and the words that stand in the lent buffers.
+-- The plan that a call hands back, read off what it leaves: the fields of its answer, and the
+-- words that stand in the lent buffers.
 use Rattle.plan_spec.specs.Plan.{Plan}
 use Rattle.work_sums.specs.Tally.{works_of}
-use Rattle.plan_buffers.specs.Outputs.{Buffers}
+use Rattle.plan_buffers.specs.SevenBuffers.{Buffers}
 use Rattle.answer.specs.declared.ActiveComponentPlan.{ActiveComponentPlan}
 
--- the answer's eight scalar fields and whole works, and every word of the seven buffers, the zeros behind the used ones too
+-- the answer's eight scalar fields and whole works, and every word of the seven buffers, the
+-- zeros behind the used ones too
 abbrev pub plan_in : ActiveComponentPlan → Buffers → Plan
 plan_in r b = record {
   selected = r.selected;

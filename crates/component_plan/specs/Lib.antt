@@ -1,2 +1,3 @@
 pub mod Answer
 pub mod Demand
+pub mod Refusing

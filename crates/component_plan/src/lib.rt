@@ -1,17 +1,20 @@
 //! The component planner: the plan of a program, written into seven lent buffers.
 #![tactic(auto)]
 
+pub mod refusing;
+
 ghost use Rattle.std.specs.Prelude.{◌≡◌, ◌≤◌, length, take};
 ghost use Rattle.plan_spec.specs.Components.{allocated_for};
 ghost use Rattle.plan_buffers.specs.Buffers.{AllBelow};
-ghost use Rattle.plan_buffers.specs.Outputs.{buffers_of};
-ghost use Rattle.plan_buffers.specs.Stored.{SameOutputs};
+ghost use Rattle.plan_buffers.specs.SevenBuffers.{buffers_of};
+ghost use Rattle.plan_buffers.specs.SixOutputs.{SameOutputs};
 ghost use Rattle.component_plan.specs.Answer.{Answers, ReadAnswers, HeadAnswers};
 
-use answer::{ActiveComponentPlan, plan_of, unread_plan};
-use lent::{buffers_short, check_lent, clear_all, clear_rest, dense_peak};
+use crate::refusing::{check_lent, dense_peak};
+use answer::{ActiveComponentPlan, finished_plan, unread_plan};
 use plan_buffers::StoredOutputs;
 use plan_buffers::buffers::allocated;
+use plan_buffers::seven::{buffers_short, clear_all, clear_rest};
 use records::{Head, check_records};
 use refusals::Refusal;
 use walk::walk;
@@ -34,16 +37,21 @@ fn plan_read(
     groups: &mut [u64],
 ) -> Result<ActiveComponentPlan, Refusal>
     ensures same { SameOutputs out.old out.new }
-    ensures answers { ReadAnswers head dense_peak records.now (buffers_of out.old groups.old) (buffers_of out.new groups.new) result }
+    ensures answers {
+        let before = buffers_of out.old groups.old in
+        let after = buffers_of out.new groups.new in
+        ReadAnswers head dense_peak records.now before after result
+    }
 {
     let n = records.len() / 8;
     let short = buffers_short(n, out, groups);
     check_lent(head.initial_k, records.len(), short)?;
     check_records(records, head.initial_k)?;
     let done = walk(head.ceiling, head.initial_k as usize, records, out, groups)?;
-    clear_rest(done, n, out, groups);
     let all = allocated_in(out, done.count);
-    Ok(plan_of(head.initial_k, dense_peak, done, n, all))
+    let plan = finished_plan(head.initial_k, dense_peak, done, n, all);
+    clear_rest(plan.used, done.groups, out, groups);
+    Ok(plan)
 }
 
 // The plan of a program, or its first refusal, after which the buffers hold anything.
@@ -54,7 +62,11 @@ fn plan_head(
     groups: &mut [u64],
 ) -> Result<ActiveComponentPlan, Refusal>
     ensures same { SameOutputs out.old out.new }
-    ensures answers { HeadAnswers head records.now (buffers_of out.old groups.old) (buffers_of out.new groups.new) result }
+    ensures answers {
+        let before = buffers_of out.old groups.old in
+        let after = buffers_of out.new groups.new in
+        HeadAnswers head records.now before after result
+    }
 {
     let peak = dense_peak(head)?;
     if head.max_k < 8 || head.nexpvals != 0 {
@@ -72,7 +84,11 @@ pub fn build_active_component_plan(
     groups: &mut [u64],
 ) -> Result<ActiveComponentPlan, Refusal>
     ensures same { SameOutputs out.old out.new }
-    ensures answers { Answers head records.now (buffers_of out.old groups.old) (buffers_of out.new groups.new) result }
+    ensures answers {
+        let before = buffers_of out.old groups.old in
+        let after = buffers_of out.new groups.new in
+        Answers head records.now before after result
+    }
 {
     let planned = plan_head(head, records, out, groups);
     if planned.is_err() {

@@ -13,18 +13,17 @@ use Rattle.records.specs.declared.Head.{Head}
 use Rattle.refusals.specs.Numbers as Reasons
 use Rattle.plan_spec.specs.Plan.{Plan, Result, planned, refused_at, refuse_all, padded, plan_of}
 use Rattle.plan_spec.proofs.Claims.{map_entries}
-use Rattle.plan_buffers.specs.Outputs as Seven
-use Rattle.plan_buffers.specs.Outputs.{Buffers}
-use Rattle.plan_buffers.specs.Stored.{Outputs, lengths_of}
 use Rattle.plan_buffers.specs.declared.WordCounts.{WordCounts}
+use Rattle.plan_buffers.specs.SevenBuffers.{Buffers, lengths_of}
+use Rattle.plan_buffers.specs.SixOutputs.{Outputs, word_counts_of}
 use Rattle.component_plan.proofs.Filled.{front_of_padded}
 use Rattle.file_words.proofs.Bytes.{length_words}
 use Rattle.stored_plan.specs.Stored.{Kept, file_of}
-use Rattle.stored_plan.specs.Reading.{Read, restored, refused, refuse, counts_of, counts_refused, kept_in, file_refused, places_refused, read_file}
+use Rattle.stored_plan.specs.Reading.{Read, restored, refused, counts_of, counts_refused, kept_in, file_refused, places_refused, read_file}
 use Rattle.stored_plan.specs.Loading as Loading
 use Rattle.stored_plan.specs.Loading.{number_of, scalar_list, Restored}
 use Rattle.stored_plan.proofs.RoundTrip.{restored_same}
-use Rattle.stored_plan.proofs.Accepting.{accepted}
+use Rattle.stored_plan.proofs.Accepting.{refuse, accepted}
 use Rattle.store.specs.Storing as Storing
 use Rattle.store.specs.Storing.{Stores, fitting, store_of}
 use Rattle.midvokt.specs.Reply.{laid_out}
@@ -54,7 +53,7 @@ pub file_answer : (h : Head) (ws : List ℕ) (before after : Buffers) (file file
     → Stores h ws before after file filed (Ok n)
 file_answer h ws before after file filed n (LeavesFile.answer m a) = a
 file_answer h ws before after file filed n (LeavesFile.reply res words room a) =
-    let l = Seven.lengths_of before in
+    let l = lengths_of before in
     let found = fitted (length file) (plan_of h ws l) (refused_number h ws l) a.number in
     let told = store_words (Storing.outcome_in (planned found.plan)) in
     let same : get_or words 1 0 ≡ length (file_of found.plan) =
@@ -131,7 +130,7 @@ module _ (k : Kept) (eight : length k.scalars ≡ 8) (n : ℕ) (room : 15 ≤ n)
 
 module _ (file : List ℕ) (before after : Outputs) where
   -- a file that is read: every call says what it keeps
-  pub kept_read : (k : Kept) (o : Option Kept) → read_file file (lengths_of before) ≡ restored k → LeavesKept file before after o
+  pub kept_read : (k : Kept) (o : Option Kept) → read_file file (word_counts_of before) ≡ restored k → LeavesKept file before after o
       → (o ≡ Some k) × Restored (restored k) before after
   kept_read k o e (LeavesKept.answer s a) =
       let held = subst (λ (x : Read). Restored x before after) e a.held in
@@ -144,7 +143,7 @@ module _ (file : List ℕ) (before after : Outputs) where
       let z : ◌≡◌ {A = ℕ} 0 1 = cc in absurd (omega arith)
   kept_read k o e (LeavesKept.reply res words room a) =
       let held = subst (λ (x : Read). Restored x before after) e a.held in
-      let eight = eight_scalars file (lengths_of before) k e in
+      let eight = eight_scalars file (word_counts_of before) k e in
       let result = a.result ∙ ap (λ (x : Read). laid_out (length res) (load_words (Loading.outcome_in x))) e in
       let scalars = ap scalars_told result ∙ scalars_back k eight (length res) room in
       let counts = ap words_told result ∙ counts_back k eight (length res) room in
@@ -153,8 +152,8 @@ module _ (file : List ℕ) (before after : Outputs) where
       let z : n ≡ 0 = a.number ∙ ap (λ (x : Read). load_number (Loading.outcome_in x)) e in absurd (omega arith)
 
   -- what a file that is not read is refused for
-  not_zero : (m : ℕ) → read_file file (lengths_of before) ≡ refused m → 0 < m
-  not_zero m e = go (file_refused file) (places_refused file) (counts_refused (lengths_of before) (kept_in file)) e
+  not_zero : (m : ℕ) → read_file file (word_counts_of before) ≡ refused m → 0 < m
+  not_zero m e = go (file_refused file) (places_refused file) (counts_refused (word_counts_of before) (kept_in file)) e
     where
       go : (a b c : Bool) → refuse a 21 (refuse b 22 (refuse c 23 (restored (kept_in file)))) ≡ refused m → 0 < m
       go true b c e = let z : 21 ≡ m = cc in omega arith
@@ -163,7 +162,7 @@ module _ (file : List ℕ) (before after : Outputs) where
       go false false false e = let z : ◌≡◌ {A = ℕ} 0 1 = cc in absurd (omega arith)
 
   -- no call says that a file keeps something that is refused
-  none_kept : (m : ℕ) (k : Kept) → read_file file (lengths_of before) ≡ refused m → LeavesKept file before after (Some k) → ⊥
+  none_kept : (m : ℕ) (k : Kept) → read_file file (word_counts_of before) ≡ refused m → LeavesKept file before after (Some k) → ⊥
   none_kept m k e (LeavesKept.answer s a) =
       let given : Loading.given (scalar_list s.scalars) s.counts ≡ Loading.turned_away m = a.answer ∙ ap Loading.outcome_in e in
       let z : ◌≡◌ {A = ℕ} 0 1 = cc in absurd (omega arith)
@@ -172,9 +171,9 @@ module _ (file : List ℕ) (before after : Outputs) where
       let z : 0 ≡ m = a.number ∙ ap (λ (x : Read). load_number (Loading.outcome_in x)) e in absurd (omega arith)
 
   -- so what a call says that a file keeps is what reading gives
-  pub kept_is : (k : Kept) → LeavesKept file before after (Some k) → read_file file (lengths_of before) ≡ restored k
-  kept_is k leaves = go (read_file file (lengths_of before)) refl
+  pub kept_is : (k : Kept) → LeavesKept file before after (Some k) → read_file file (word_counts_of before) ≡ restored k
+  kept_is k leaves = go (read_file file (word_counts_of before)) refl
     where
-      go : (x : Read) → read_file file (lengths_of before) ≡ x → read_file file (lengths_of before) ≡ restored k
+      go : (x : Read) → read_file file (word_counts_of before) ≡ x → read_file file (word_counts_of before) ≡ restored k
       go (restored l) e = let both = (kept_read l (Some k) e leaves).0 in let same : k ≡ l = cc in e ∙ ap restored (sym same)
       go (refused m) e = absurd (none_kept m k e leaves)

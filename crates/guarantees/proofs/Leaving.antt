@@ -21,7 +21,7 @@ use Rattle.plan_spec.proofs.Words.{works_fit}
 use Rattle.work_sums.specs.Tally.{works_of}
 use Rattle.work_sums.specs.declared.WholeWorks as Declared
 use Rattle.work_sums.specs.declared.WholeWorks.TheVariants as W
-use Rattle.plan_buffers.specs.Outputs.{Buffers, lengths_of}
+use Rattle.plan_buffers.specs.SevenBuffers.{Buffers, lengths_of}
 use Rattle.answer.specs.declared.ActiveComponentPlan.{ActiveComponentPlan}
 use Rattle.answer.specs.Outcome.{accepted, used_in, outcome_of, outcome_in}
 use Rattle.component_plan.specs.Answer.{Answers}

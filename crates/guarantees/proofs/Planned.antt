@@ -29,7 +29,7 @@ use Rattle.plan_spec.proofs.Replay.{seam_part, seam_entry}
 use Rattle.plan_spec.proofs.Padded.{Pads}
 use Rattle.plan_spec.proofs.Room.{steps_count}
 use Rattle.plan_spec.proofs.Accepted.{accepted}
-use Rattle.plan_buffers.specs.Outputs.{Buffers, lengths_of}
+use Rattle.plan_buffers.specs.SevenBuffers.{Buffers, lengths_of}
 use Rattle.component_plan.specs.Answer.{Answers}
 use Rattle.component_plan.specs.Demand.{plan_in}
 use Rattle.answer.specs.declared.ActiveComponentPlan.{ActiveComponentPlan}

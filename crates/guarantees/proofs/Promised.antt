@@ -23,11 +23,10 @@ use Rattle.plan_spec.proofs.Room.{plan_fits}
 use Rattle.plan_spec.proofs.Connected.{read_head}
 use Rattle.plan_spec.proofs.Padded.{zeroed_at}
 use Rattle.plan_spec.proofs.Under.{same_plan, no_other}
-use Rattle.plan_buffers.specs.Outputs.{Buffers, lengths_of}
-use Rattle.plan_buffers.specs.Stored as Six
+use Rattle.plan_buffers.specs.SixOutputs.{word_counts_of}
+use Rattle.plan_buffers.specs.SevenBuffers.{Buffers, lengths_of, Held}
 use Rattle.plan_buffers.specs.declared.WordCounts.{WordCounts}
 use Rattle.answer.specs.declared.ActiveComponentPlan.{ActiveComponentPlan}
-use Rattle.lent.specs.Lent.{Held}
 use Rattle.answer.specs.Outcome.{used_in, outcome_of, outcome_in}
 use Rattle.component_plan.specs.Answer.{Answers}
 use Rattle.component_plan.specs.Demand.{plan_in}
@@ -251,7 +250,7 @@ stored h ws before after file filed n small leaves =
         trailer = w.2.trailer;
         back = λ lent left o long loads.
             kept_read (take n filed) lent left (kept_of p) o
-            (ap (λ (f : List ℕ). read_file f (Six.lengths_of lent)) w.2.file ∙ plan_restored h ws (lengths_of before) p small w.1 (Six.lengths_of lent) long) loads;
+            (ap (λ (f : List ℕ). read_file f (word_counts_of lent)) w.2.file ∙ plan_restored h ws (lengths_of before) p small w.1 (word_counts_of lent) long) loads;
       },
     )
 
@@ -263,7 +262,7 @@ short_file h ws before after file filed n small leaves =
     let count = w.2.returned in omega arith
 
 pub one_file : FileIsOne
-one_file file before after k bytes leaves = file_is file (Six.lengths_of before) k bytes (kept_is file before after k leaves)
+one_file file before after k bytes leaves = file_is file (word_counts_of before) k bytes (kept_is file before after k leaves)
 
 pub one_program : PlanIsOne
 one_program h h' ws ws' before before' p q small small' e e' = same_file h ws (lengths_of before) p small e h' ws' (lengths_of before') q small' e'

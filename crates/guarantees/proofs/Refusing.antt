@@ -9,12 +9,11 @@ use lib.ListN.{length, get_or}
 use Rattle.refusals.specs.Numbers as Reasons
 use Rattle.records.specs.declared.Head.{Head}
 use Rattle.plan_spec.specs.Plan.{Result, planned, refused_at, plan_of}
-use Rattle.plan_buffers.specs.Outputs.{Buffers, lengths_of}
-use Rattle.lent.specs.Lent.{Held}
 use Rattle.answer.specs.Outcome.{turned_away, outcome_in}
 use Rattle.midvokt.specs.Reply.{number_of, words_of, laid_out}
 use Rattle.guarantees.specs.Calls.{Leaves, Refuses, zeroed}
 use Rattle.guarantees.proofs.Leaving.{word_there}
+use Rattle.plan_buffers.specs.SevenBuffers.{Buffers, lengths_of, Held}
 
 -- what is refused
 pub record RefusedAt (result : Result) (number : ℕ) : Type 0 where

@@ -15,11 +15,10 @@ use Rattle.plan_spec.proofs.Steps.{cond_yes}
 use Rattle.plan_spec.proofs.Accepted.{ceiling_passed, accepted}
 use Rattle.plan_spec.proofs.Room.{unread_planned, unread_is}
 use Rattle.plan_spec.proofs.Works.{reached_nonneg}
-use Rattle.plan_buffers.specs.Outputs.{Buffers}
-use Rattle.lent.specs.Lent.{Held}
 use Rattle.guarantees.specs.Calls.{zeroed}
 use Rattle.guarantees.specs.Promises.{SaysNothing}
 use Rattle.guarantees.proofs.Refusing.{zeros_held}
+use Rattle.plan_buffers.specs.SevenBuffers.{Buffers, Held}
 
 -- ---- works
 

@@ -9,7 +9,7 @@ use Rattle.records.specs.declared.Instruction.{Instruction}
 use Rattle.records.specs.declared.Instruction.TheVariants.{Rotation, Promotion, RecordMeasurement, RecordDetector, Measurement, Expectation, DormantBranch}
 use Rattle.plan_spec.specs.Lists.{place_of, remove_at}
 use Rattle.plan_spec.specs.Walk.{Walk, Join, join_of, local_action}
-use Rattle.plan_buffers.specs.Outputs.{Buffers}
+use Rattle.plan_buffers.specs.SevenBuffers.{Buffers}
 use Rattle.plan_rows.specs.declared.RowHead.{RowHead}
 use Rattle.plan_rows.specs.declared.RotationRow.{RotationRow}
 use Rattle.plan_rows.specs.declared.MeasurementRow.{MeasurementRow}

@@ -11,9 +11,9 @@ use Rattle.records.specs.declared.Head.{Head}
 use Rattle.plan_spec.specs.Lists.{numbers_from}
 use Rattle.plan_spec.specs.WholeWorks.{WholeWorks, too_wide, without_quotient, with_quotient}
 use Rattle.plan_spec.specs.Plan.{Plan}
-use Rattle.plan_buffers.specs.Outputs.{Buffers}
-use Rattle.plan_buffers.specs.Stored.{Outputs}
 use Rattle.plan_buffers.specs.declared.WordCounts.{WordCounts}
+use Rattle.plan_buffers.specs.SevenBuffers.{Buffers}
+use Rattle.plan_buffers.specs.SixOutputs.{Outputs}
 use Rattle.answer.specs.declared.ActiveComponentPlan.{ActiveComponentPlan}
 use Rattle.component_plan.specs.Answer.{Answers}
 use Rattle.component_plan.specs.Demand.{plan_in}

@@ -16,10 +16,9 @@ use Rattle.plan_spec.specs.Connectivity.{Connected, Replayed, listed_by, replay_
 use Rattle.plan_spec.specs.Sources.{Sources, Listed, SourcesListed}
 use Rattle.plan_spec.specs.Groups.{GroupsListed}
 use Rattle.plan_spec.specs.Laws.{Agree, TooWideExactly, NonNegative, Whole, Fits, HasDimensions, under, HoldsPlan}
-use Rattle.plan_buffers.specs.Outputs.{Buffers, lengths_of}
+use Rattle.plan_buffers.specs.SevenBuffers.{Buffers, lengths_of}
 use Rattle.plan_buffers.specs.declared.WordCounts.{WordCounts}
-use Rattle.plan_buffers.specs.Stored as Six
-use Rattle.plan_buffers.specs.Stored.{Outputs}
+use Rattle.plan_buffers.specs.SixOutputs.{Outputs, word_counts_of}
 use Rattle.plan_rows.specs.Reading.{part_of}
 use Rattle.file_words.specs.Laws.{Bytes}
 use Rattle.stored_plan.specs.Stored.{Kept, kept_of, bytes_of, file_of}
@@ -237,7 +236,7 @@ PartsAreRead =
 abbrev pub IsReadBack : Plan → List ℕ → Type 0
 IsReadBack p file =
     (before after : Outputs) (o : Option Kept)
-    → LongEnough p (Six.lengths_of before)
+    → LongEnough p (word_counts_of before)
     → LeavesKept file before after o
     → (o ≡ Some (kept_of p)) × Restored (restored (kept_of p)) before after
 

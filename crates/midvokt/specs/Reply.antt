@@ -7,8 +7,7 @@ use Rattle.plan_spec.specs.Lists.{numbers_from}
 use Rattle.plan_spec.specs.WholeWorks.{whole_words}
 use Rattle.plan_spec.specs.Walk.{flag_word, bits_word}
 use Rattle.plan_spec.specs.Plan.{plan_of}
-use Rattle.plan_buffers.specs.Outputs.{Buffers, lengths_of}
-use Rattle.lent.specs.Lent.{Held}
+use Rattle.plan_buffers.specs.SevenBuffers.{Buffers, lengths_of, Held}
 use Rattle.answer.specs.Outcome.{Outcome, accepted, turned_away, outcome_in}
 
 -- the head of a call's first four words

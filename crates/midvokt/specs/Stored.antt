@@ -1,17 +1,14 @@
 -- What the contracts of `midvokt_store` and `midvokt_load` say: what they return, the words of `result`, the buffers and the file, for 02's definition, CR 2.
 use Rattle.std.specs.Prelude.{ℕ, ◌≡◌, List, [], ◌∷◌, ◌++◌, length, replicate}
 use Rattle.records.specs.declared.Head.{Head}
-use Rattle.plan_spec.specs.Plan.{held_after}
-use Rattle.plan_buffers.specs.Outputs.{Buffers, lengths_of}
-use Rattle.lent.specs.Lent.{Held}
-use Rattle.stored_plan.specs.Stored.{file_of}
+use Rattle.plan_spec.specs.Plan.{padded}
+use Rattle.plan_buffers.specs.SevenBuffers.{Buffers, lengths_of, Held}
 use Rattle.stored_plan.specs.Reading.{read_file}
 use Rattle.stored_plan.specs.Loading as Loading
-use Rattle.plan_buffers.specs.Stored as Six
-use Rattle.plan_buffers.specs.Stored.{Outputs}
+use Rattle.plan_buffers.specs.SixOutputs.{Outputs, word_counts_of}
 use Rattle.stored_plan.specs.Loading.{Restored}
 use Rattle.store.specs.Storing as Storing
-use Rattle.store.specs.Storing.{store_of}
+use Rattle.store.specs.Storing.{store_of, file_in}
 use Rattle.midvokt.specs.Reply.{laid_out}
 
 -- ---- storing
@@ -30,7 +27,7 @@ pub record StoreReplies (h : Head) (ws : List ℕ) (before after : Buffers) (fil
   pub number : r ≡ store_number (Storing.outcome_in (store_of h ws (lengths_of before) (length file)))
   pub result : filled ≡ laid_out (length lent) (store_words (Storing.outcome_in (store_of h ws (lengths_of before) (length file))))
   pub held : Held (store_of h ws (lengths_of before) (length file)) before after
-  pub bytes : filed ≡ held_after (length file) file_of (store_of h ws (lengths_of before) (length file))
+  pub bytes : filed ≡ padded (length file) (file_in (store_of h ws (lengths_of before) (length file)))
 
 -- ---- reading
 
@@ -57,6 +54,6 @@ load_words (Loading.given scalars counts) =
 load_words (Loading.turned_away number) = replicate 15 0
 
 pub record LoadReplies (file : List ℕ) (before after : Outputs) (lent filled : List ℕ) (r : ℕ) : Type 0 where
-  pub number : r ≡ load_number (Loading.outcome_in (read_file file (Six.lengths_of before)))
-  pub result : filled ≡ laid_out (length lent) (load_words (Loading.outcome_in (read_file file (Six.lengths_of before))))
-  pub held : Restored (read_file file (Six.lengths_of before)) before after
+  pub number : r ≡ load_number (Loading.outcome_in (read_file file (word_counts_of before)))
+  pub result : filled ≡ laid_out (length lent) (load_words (Loading.outcome_in (read_file file (word_counts_of before))))
+  pub held : Restored (read_file file (word_counts_of before)) before after

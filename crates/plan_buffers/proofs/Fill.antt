@@ -1,15 +1,16 @@
--- A value given to every entry from a place on, one by one; and what the library says of a sum, in 01's words.
+-- A value given to every entry from a place on, one by one; zeros behind the first words; and what the library says of a sum, in 01's words.
 -- Assumes nothing.
 use mathlib.Core.Path.{◌≡◌, refl, ap, ◌∙◌}
 use mathlib.Core.List.{List, [], ◌∷◌, ◌++◌, map, append_assoc}
 use Prim.Native.Nat.{ℕ, ◌+◌, ◌-◌, ◌^◌, ◌≤◌, ◌<◌, min}
 use native.Mathlib.Numerals.{add-one}
 use native.Mathlib.Omega.{arith}
-use lib.ListN.{length, set, take, replicate, replicate-append-replicate}
+use lib.ListN.{length, set, take, replicate, length-take, replicate-append-replicate}
 use lib.Seq.{take-suc-set}
 use Rattle.std.specs.List.{sum_by}
 use Rattle.std.proofs.lemmas.List.Sums.{sum_by-cons}
 use Rattle.plan_spec.specs.Lists.{total}
+use Rattle.plan_spec.specs.Plan.{padded}
 use Rattle.plan_spec.specs.Components.{allocated_for}
 
 -- ---- one entry more has the value
@@ -23,6 +24,14 @@ filled_more {A} xs ys value from i h l e =
     ∙ ap (λ (r : List A). r ++ (value ∷ [])) e
     ∙ append_assoc (take from xs) (replicate (i - from) value) (value ∷ [])
     ∙ ap (λ (r : List A). take from xs ++ r) (replicate-append-replicate (i - from) 1 value ∙ ap (λ (n : ℕ). replicate n value) grown)
+
+-- ---- zeros behind the first words
+
+pub rest_padded : (n : ℕ) (xs : List ℕ) → take n xs ++ replicate (length xs - n) 0 ≡ padded (length xs) (take n xs)
+rest_padded n xs =
+    let l = length-take n xs in
+    let rest : length xs - n ≡ length xs - length (take n xs) = omega arith in
+    ap (λ (k : ℕ). take n xs ++ replicate k 0) rest
 
 -- ---- a sum of powers in std's words
 

@@ -1,3 +1,4 @@
 pub mod Fill
 pub mod Groups
 pub mod Parts
+pub mod Lengths

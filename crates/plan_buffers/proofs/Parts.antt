@@ -7,9 +7,6 @@ use lib.ListN.{length, take, drop, length-drop, drop_of_length-le}
 use lib.Seq.{take_all, drop-drop}
 use borrow.Rule.Slice.PartMut.{put_mid}
 use Rattle.plan_buffers.specs.Buffers.{patch}
-use Rattle.plan_buffers.specs.Stored as Stored
-use Rattle.plan_buffers.specs.declared.StoredOutputs.{StoredOutputs}
-use Rattle.plan_buffers.specs.Outputs.{SameLengths, buffers_of}
 
 pub part_written : (at n : ℕ) (ws xs ys : List ℕ) → length ws ≡ n → ys ≡ ws ++ drop n (take (length xs - at) (drop at xs)) → put_mid at (length xs - at) xs ys ≡ patch at ws xs
 part_written at n ws xs ys l e =
@@ -22,16 +19,3 @@ part_written at n ws xs ys l e =
     ∙ ap (λ (r : List ℕ). take at xs ++ (ws ++ drop n r)) whole
     ∙ ap (λ (r : List ℕ). take at xs ++ (ws ++ r)) (drop-drop n at xs)
     ∙ ap (λ (k : ℕ). take at xs ++ (ws ++ drop (at + k) xs)) (sym l)
-
--- the six outputs and the groups keep their lengths, so all seven buffers do
-pub all_lengths : (o o' : StoredOutputs) (groups groups' : List ℕ) → Stored.SameLengths (Stored.outputs_of o) (Stored.outputs_of o') → length groups' ≡ length groups
-    → SameLengths (buffers_of o groups) (buffers_of o' groups')
-all_lengths o o' groups groups' six seventh = record {
-  steps = six.steps;
-  merges = six.merges;
-  sizes = six.sizes;
-  rotations = six.rotations;
-  promotions = six.promotions;
-  measurements = six.measurements;
-  groups = seventh;
-}

@@ -1,5 +1,6 @@
--- What the contracts of the module `buffers` say of groups: the counts first, with room behind each, and then each coordinate at its place. 01, section 4,
--- "Groups (added): final live components, each a member count and its members in order".
+-- What the contracts of the module `buffers` say of groups: the counts first, with room behind
+-- each, and then each coordinate at its place. 01, section 4, "Groups (added): final live
+-- components, each a member count and its members in order".
 use Rattle.std.specs.Prelude.{ℕ, zero, suc, ◌+◌, ◌<◌, ◌≤◌, List, [], ◌∷◌, ◌++◌, length, get_or, set, take, drop, replicate, if◌then◌else◌, ◌==◌}
 
 -- every entry stands below n
@@ -16,15 +17,21 @@ pub record Counts : Type 0 where
   pub start : List ℕ
   pub used : ℕ
 
--- the components of these sizes, of which the first has the number c: those with no members have no group
+-- the components of these sizes, of which the first has the number c: those with no members have
+-- no group
 abbrev pub counts_from : ℕ → List ℕ → Counts → Counts
 counts_from c [] h = h
 counts_from c (s ∷ ss) h =
     counts_from (suc c) ss
-    (if (s == 0) then h else record { groups = set h.groups h.used s; start = set h.start c (suc h.used); used = h.used + suc s })
+    (if (s == 0) then h else record {
+      groups = set h.groups h.used s;
+      start = set h.start c (suc h.used);
+      used = h.used + suc s;
+    })
 
 unfoldable pub counts_of : List ℕ → List ℕ → Counts
-counts_of size groups = counts_from 0 size (record { groups = groups; start = replicate 512 0; used = 0 })
+counts_of size groups =
+    counts_from 0 size (record { groups = groups; start = replicate 512 0; used = 0 })
 
 -- the groups fit the buffer, and their places fit the starts
 pub record CountsFit (size groups : List ℕ) : Type 0 where

@@ -1,11 +1,12 @@
-//! The lent buffers other than rows: zeros behind the used words, the longest sizes and what they allocate, and the groups.
+//! The lent buffers other than rows: zeros behind the used words, the longest sizes and what they
+//! allocate, and the groups.
 ghost use Rattle.std.specs.Prelude.{◌≡◌, ◌++◌, ◌+◌, ◌-◌, ◌^◌, ◌≤◌, ◌<◌, max, min, length, get_or, set, take, drop, replicate};
 ghost use Rattle.plan_spec.specs.Components.{allocated_for};
 ghost use Rattle.plan_buffers.specs.Buffers.{AllBelow, counts_of, CountsFit, placed_up_to, PlacesFit};
 
 /// Gives every entry from a place on one value.
-// Kept: a loop over the places and no `fill`, which asks that a clone cannot fail and is the value; of a type parameter the
-// check does not know that (tried).
+// Kept: a loop over the places and no `fill`, which asks that a clone cannot fail and is the
+// value; of a type parameter the check does not know that (tried).
 pub fn fill_from<T: Copy>(entries: &mut [T], from: usize, value: T)
     ensures { entries.new ≡ take from entries.old ++ replicate (length entries.old - from) value }
 {
@@ -49,15 +50,15 @@ pub struct Starts {
     pub used: usize,
 }
 
-/// Writes the member count of each component that has members, in the order of their numbers, with room for the members
-/// behind each.
+/// Writes the member count of each component that has members, in the order of their numbers,
+/// with room for the members behind each.
 #[tactic(auto, using(crate::proofs::Groups::counts_room))]
 pub fn write_counts(size: &[u8; 512], count: usize, groups: &mut [u64]) -> Starts
     requires fits { CountsFit (take count size.now) groups.old }
     requires few { count ≤ 512 }
-    ensures { (result.start ≡ (counts_of (take count size.now) groups.old).start)
-        × (result.used ≡ (counts_of (take count size.now) groups.old).used)
-        × (groups.new ≡ (counts_of (take count size.now) groups.old).groups) }
+    ensures start { result.start ≡ (counts_of (take count size.now) groups.old).start }
+    ensures used { result.used ≡ (counts_of (take count size.now) groups.old).used }
+    ensures groups { groups.new ≡ (counts_of (take count size.now) groups.old).groups }
 {
     let mut start = [0u16; 512];
     let mut used = 0usize;
@@ -82,7 +83,10 @@ pub fn write_members<'a>(
     groups: &mut [u64],
 )
     requires { PlacesFit start component.now place.now width (length groups.old) }
-    ensures { groups.new ≡ placed_up_to start coordinate.now component.now place.now width groups.old }
+    ensures {
+        groups.new
+            ≡ placed_up_to start coordinate.now component.now place.now width groups.old
+    }
 {
     for p in 0..width {
         let c = usize::from(component[p]);

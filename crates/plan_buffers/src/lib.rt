@@ -1,16 +1,20 @@
-//! What planning writes into the lent buffers beside rows and steps: longest sizes, groups, and zeros.
+//! The lent buffers and what planning writes into them beside rows and steps: longest sizes,
+//! groups, and zeros.
 #![tactic(auto)]
 
 pub mod buffers;
+pub mod seven;
 
 ghost use Rattle.std.specs.Prelude.{◌≡◌};
-ghost use Rattle.plan_buffers.specs.Stored.{outputs_of, lengths_of, outputs_short, SameOutputs, Cleared};
+ghost use Rattle.plan_buffers.specs.SixOutputs.{outputs_of, word_counts_of, outputs_short, SameOutputs, Cleared};
 
 use crate::buffers::fill_from;
 
-/// The six lent outputs that a stored plan has too. What lends by `&mut` is neither copied nor compared, so nothing more is derived.
-// Kept: planning's seventh buffer, the groups, is lent beside it. In a struct that holds this struct the six lose what their
-// owner knows of them after a call (tried), and in one struct of all seven zeroing and lengths would stand twice.
+/// The six lent outputs that a stored plan has too. What lends by `&mut` is neither copied nor
+/// compared, so nothing more is derived.
+// Kept: planning's seventh buffer, the groups, is lent beside it. In a struct that holds this
+// struct the six lose what their owner knows of them after a call (tried), and in one struct of
+// all seven zeroing and lengths would stand twice.
 #[derive(Drop)]
 pub struct StoredOutputs<'a> {
     pub steps: &'a mut [u64],
@@ -55,7 +59,7 @@ impl WordCounts {
 impl StoredOutputs<'_> {
     /// How many words each has room for.
     pub fn lengths(&self) -> WordCounts
-        ensures { result ≡ lengths_of (outputs_of self.now) }
+        ensures { result ≡ word_counts_of (outputs_of self.now) }
     {
         WordCounts {
             steps: self.steps.len(),

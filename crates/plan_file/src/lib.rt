@@ -1,11 +1,11 @@
-//! Writing the file of a plan into lent bytes, from the fields of its answer and the words that its outputs hold: the six
-//! sections, the scalar words, the trailer, and zeros behind them.
+//! Writing the file of a plan into lent bytes, from the fields of its answer and the words that
+//! its outputs hold: the six sections, the scalar words, the trailer, and zeros behind them.
 #![tactic(auto)]
 
 ghost use Rattle.std.specs.Prelude.{◌≡◌, ◌+◌, ◌*◌, ◌≤◌, ◌<◌, ◌^◌, length};
 ghost use Rattle.plan_spec.specs.Plan.{padded};
 ghost use Rattle.stored_plan.specs.Stored.{bytes_of};
-ghost use Rattle.plan_buffers.specs.Stored.{lengths_of};
+ghost use Rattle.plan_buffers.specs.SixOutputs.{word_counts_of};
 ghost use Rattle.plan_file.specs.Writing.{words_in, kept_in, scalars_in, words_for, trailer_for};
 
 use answer::ActiveComponentPlan;
@@ -15,8 +15,9 @@ use plan_buffers::buffers::fill_from;
 use records::float_bits;
 
 /// The words that a file keeps of each of the first six outputs.
-// Kept: no one generic struct with `StoredOutputs` and `WordCounts`, which have the same six names: one is written through, one is
-// read and one counts, so that their derives, methods and promises differ.
+// Kept: no one generic struct with `StoredOutputs` and `WordCounts`, which have the same six
+// names: one is written through, one is read and one counts, so that their derives, methods and
+// promises differ.
 #[derive(Clone, Copy, Debug, PartialEq, Eq)]
 pub struct Sections<'a> {
     pub steps: &'a [u64],
@@ -90,8 +91,11 @@ fn trailer_words(used: WordCounts) -> [u64; 16]
 
 /// Writes the file of a plan with these words, and zeros behind it.
 pub fn write_file(plan: ActiveComponentPlan, sections: &Sections, file: &mut [u8])
-    requires { 8 * words_for (lengths_of (words_in sections.now)) ≤ length file.old }
-    ensures { file.new ≡ padded (length file.old) (bytes_of (kept_in plan (words_in sections.now))) }
+    requires { 8 * words_for (word_counts_of (words_in sections.now)) ≤ length file.old }
+    ensures {
+        let kept = kept_in plan (words_in sections.now) in
+        file.new ≡ padded (length file.old) (bytes_of kept)
+    }
 {
     let used = WordCounts {
         steps: sections.steps.len(),

@@ -9,16 +9,15 @@ use native.Mathlib.Omega.{arith}
 use lib.ListN.{length}
 use borrow.Author.Tests.{lt-ltb, le-ltb}
 use Rattle.records.specs.declared.Head.{Head}
-use Rattle.plan_spec.specs.Plan.{Plan, Result, planned, refused_at, refuse_all, plan_of, padded, held_after}
+use Rattle.plan_spec.specs.Plan.{Lengths, Plan, Result, planned, refused_at, refuse_all, plan_of, padded}
 use Rattle.plan_spec.proofs.Room.{plan_fits_in}
 use Rattle.plan_spec.proofs.Words.{plan_counts}
 use Rattle.plan_buffers.specs.declared.WordCounts.{WordCounts}
-use Rattle.plan_buffers.specs.Stored.{Outputs}
+use Rattle.plan_buffers.specs.SixOutputs.{Outputs}
 use Rattle.refusals.specs.Numbers.{number_of}
 use Rattle.refusals.specs.declared.Refusal.{Refusal}
 use Rattle.refusals.specs.declared.Reason.TheVariants.{Lengths as LengthsShort}
-use Rattle.plan_buffers.specs.Outputs.{Buffers, lengths_of, SameLengths}
-use Rattle.lent.specs.Lent.{Held}
+use Rattle.plan_buffers.specs.SevenBuffers.{Buffers, lengths_of, SameLengths, padded_buffers, no_words, Held}
 use Rattle.answer.specs.declared.ActiveComponentPlan.{ActiveComponentPlan}
 use Rattle.answer.specs.Outcome.{outcome_of, used_in}
 use Rattle.component_plan.specs.Answer.{Answers}
@@ -29,7 +28,7 @@ use Rattle.plan_file.specs.Writing.{scalars_in, words_for}
 use Rattle.plan_file.proofs.Writing.{bytes_count}
 use Rattle.plan_file.proofs.Fields.{found}
 use Rattle.store.specs.Storing as Storing
-use Rattle.store.specs.Storing.{fitting, store_of, outcome_in, Stores, UsedInside, used_of}
+use Rattle.store.specs.Storing.{fitting, store_of, file_in, outcome_in, Stores, UsedInside, used_of}
 
 -- ---- a plan that was answered
 
@@ -59,24 +58,24 @@ module _ (h : Head) (ws : List ℕ) (before between : Buffers) (r : ActiveCompon
   inside same =
       let f = plan_fits_in h ws (lengths_of before) p it.1 in
       let u = it.3 in record {
-        steps = subst₂ (λ (c : WordCounts) (n : ℕ). c.steps ≤ n) (sym u) (sym same.steps) f.steps;
-        merges = subst₂ (λ (c : WordCounts) (n : ℕ). c.merges ≤ n) (sym u) (sym same.merges) f.merges;
-        sizes = subst₂ (λ (c : WordCounts) (n : ℕ). c.sizes ≤ n) (sym u) (sym same.sizes) f.sizes;
-        rotations = subst₂ (λ (c : WordCounts) (n : ℕ). c.rotations ≤ n) (sym u) (sym same.rotations) f.rotations;
-        promotions = subst₂ (λ (c : WordCounts) (n : ℕ). c.promotions ≤ n) (sym u) (sym same.promotions) f.promotions;
-        measurements = subst₂ (λ (c : WordCounts) (n : ℕ). c.measurements ≤ n) (sym u) (sym same.measurements) f.measurements;
+        steps = subst₂ (λ (c : WordCounts) (l : Lengths). c.steps ≤ l.steps) (sym u) (sym same) f.steps;
+        merges = subst₂ (λ (c : WordCounts) (l : Lengths). c.merges ≤ l.merges) (sym u) (sym same) f.merges;
+        sizes = subst₂ (λ (c : WordCounts) (l : Lengths). c.sizes ≤ l.sizes) (sym u) (sym same) f.sizes;
+        rotations = subst₂ (λ (c : WordCounts) (l : Lengths). c.rotations ≤ l.rotations) (sym u) (sym same) f.rotations;
+        promotions = subst₂ (λ (c : WordCounts) (l : Lengths). c.promotions ≤ l.promotions) (sym u) (sym same) f.promotions;
+        measurements = subst₂ (λ (c : WordCounts) (l : Lengths). c.measurements ≤ l.measurements) (sym u) (sym same) f.measurements;
       }
 
   -- what stands in front is what the file keeps
   front_is : used_of r (six between) ≡ kept_of p
   front_is =
       let u = it.3 in
-      let steps = front_of_padded _ r.used.steps p.steps between.steps (ap (λ (c : WordCounts). c.steps) u) held.steps in
-      let merges = front_of_padded _ r.used.merges p.merges between.merges (ap (λ (c : WordCounts). c.merges) u) held.merges in
-      let sizes = front_of_padded _ r.used.sizes p.sizes between.sizes (ap (λ (c : WordCounts). c.sizes) u) held.sizes in
-      let rotations = front_of_padded _ r.used.rotations p.rotations between.rotations (ap (λ (c : WordCounts). c.rotations) u) held.rotations in
-      let promotions = front_of_padded _ r.used.promotions p.promotions between.promotions (ap (λ (c : WordCounts). c.promotions) u) held.promotions in
-      let measurements = front_of_padded _ r.used.measurements p.measurements between.measurements (ap (λ (c : WordCounts). c.measurements) u) held.measurements in
+      let steps = front_of_padded _ r.used.steps p.steps between.steps (ap (λ (c : WordCounts). c.steps) u) (ap (λ (b : Buffers). b.steps) held) in
+      let merges = front_of_padded _ r.used.merges p.merges between.merges (ap (λ (c : WordCounts). c.merges) u) (ap (λ (b : Buffers). b.merges) held) in
+      let sizes = front_of_padded _ r.used.sizes p.sizes between.sizes (ap (λ (c : WordCounts). c.sizes) u) (ap (λ (b : Buffers). b.sizes) held) in
+      let rotations = front_of_padded _ r.used.rotations p.rotations between.rotations (ap (λ (c : WordCounts). c.rotations) u) (ap (λ (b : Buffers). b.rotations) held) in
+      let promotions = front_of_padded _ r.used.promotions p.promotions between.promotions (ap (λ (c : WordCounts). c.promotions) u) (ap (λ (b : Buffers). b.promotions) held) in
+      let measurements = front_of_padded _ r.used.measurements p.measurements between.measurements (ap (λ (c : WordCounts). c.measurements) u) (ap (λ (b : Buffers). b.measurements) held) in
       λ i. record {
         steps = steps i;
         merges = merges i;
@@ -99,15 +98,16 @@ module _ (h : Head) (ws : List ℕ) (before between : Buffers) (r : ActiveCompon
       subst (λ (c : WordCounts). words_for c ≤ 24 * 1024 + 1047) (sym it.3) most
 
   -- a file too short for it
-  pub stores_short : (after : Buffers) (file filed : List ℕ) → length file / 8 < words_for r.used → SameLengths before between → Held (refused_at 0 0) between after
+  pub stores_short : (after : Buffers) (file filed : List ℕ) → length file / 8 < words_for r.used → SameLengths before between
+      → after ≡ padded_buffers (lengths_of between) no_words
       → filed ≡ padded (length file) [] → Stores h ws before after file filed (Err (record { reason = LengthsShort; index = 0 }))
   stores_short after file filed short same zeros cleared =
       let long = file_length in
       let refusal : store_of h ws (lengths_of before) (length file) ≡ refused_at 23 0 =
       ap (fitting (length file)) it.1 ∙ ap (λ (t : Bool). refuse_all t 23 (planned p)) (lt-ltb (length file) (length (file_of p)) (omega arith)) in record {
         answer = sym (ap outcome_in refusal);
-        held = subst (λ (x : Result). Held x before after) (sym refusal) (zeros_held 0 0 23 0 before between after same zeros);
-        bytes = cleared ∙ sym (ap (held_after (length file) file_of) refusal);
+        held = subst (λ (x : Result). Held x before after) (sym refusal) (zeros_held before between after same zeros);
+        bytes = cleared ∙ sym (ap (λ (x : Result). padded (length file) (file_in x)) refusal);
       }
 
   -- and one that is long enough
@@ -119,7 +119,7 @@ module _ (h : Head) (ws : List ℕ) (before between : Buffers) (r : ActiveCompon
       ap (fitting (length file)) it.1 ∙ ap (λ (t : Bool). refuse_all t 23 (planned p)) (le-ltb (length file) (length (file_of p)) (omega arith)) in record {
         answer = ap Storing.written (sym long) ∙ sym (ap outcome_in plan);
         held = subst (λ (x : Result). Held x before between) (sym plan) held;
-        bytes = written ∙ ap (λ (k : Kept). padded (length file) (bytes_of k)) front_is ∙ sym (ap (held_after (length file) file_of) plan);
+        bytes = written ∙ ap (λ (k : Kept). padded (length file) (bytes_of k)) front_is ∙ sym (ap (λ (x : Result). padded (length file) (file_in x)) plan);
       }
 
 -- ---- a refusal of planning
@@ -132,5 +132,5 @@ stores_refused h ws before after r refusal file filed a e cleared =
     let kept : store_of h ws (lengths_of before) (length file) ≡ refused_at number refusal.index = ap (fitting (length file)) gone in record {
       answer = sym (ap outcome_in kept);
       held = subst (λ (x : Result). Held x before after) (gone ∙ sym kept) a.held;
-      bytes = cleared ∙ sym (ap (held_after (length file) file_of) kept);
+      bytes = cleared ∙ sym (ap (λ (x : Result). padded (length file) (file_in x)) kept);
     }

@@ -8,19 +8,18 @@ use native.Mathlib.Omega.{arith}
 use lib.Dec.{ltb}
 use lib.ListN.{length, take}
 use Rattle.records.specs.declared.Head.{Head}
-use Rattle.plan_spec.specs.Plan.{Plan, Result, planned, refused_at, refuse_all, plan_of, padded, held_after}
-use Rattle.plan_buffers.specs.Outputs as Outputs
-use Rattle.plan_buffers.specs.Outputs.{Buffers}
+use Rattle.plan_spec.specs.Plan.{Plan, Result, planned, refused_at, refuse_all, plan_of, padded}
+use Rattle.plan_buffers.specs.SevenBuffers.{Buffers, lengths_of}
 use Rattle.component_plan.proofs.Filled.{front_of_padded}
 use Rattle.stored_plan.specs.Stored.{kept_of, file_of}
 use Rattle.stored_plan.specs.Reading.{Read, restored, trailer_word, read_file}
-use Rattle.plan_buffers.specs.Stored.{Outputs, lengths_of}
+use Rattle.plan_buffers.specs.SixOutputs.{Outputs, word_counts_of}
 use Rattle.stored_plan.specs.Loading.{Loads, Restored, outcome_in}
 use Rattle.refusals.specs.declared.Reason.{Reason}
 use Rattle.stored_plan.specs.declared.StoredPlan.{StoredPlan}
 use Rattle.stored_plan.proofs.Plans.{plan_restored, own_length}
 use Rattle.store.specs.Storing as Storing
-use Rattle.store.specs.Storing.{fitting, Stores}
+use Rattle.store.specs.Storing.{fitting, file_in, Stores}
 use Rattle.store.specs.Restoring.{GivesBack, Written}
 
 -- an answer with a length is that of an accepted plan
@@ -40,7 +39,7 @@ stored_plan size (planned p) n e = go (ltb size (length (file_of p))) refl
         let same : n ≡ length (file_of p) = cc in (p, refl, fits, same)
 
 -- what reading gives, given back
-gives_back : (p : Plan) (file : List ℕ) (before after : Outputs) (r : Answered StoredPlan Reason) → read_file file (lengths_of before) ≡ restored (kept_of p) → Loads file before after r
+gives_back : (p : Plan) (file : List ℕ) (before after : Outputs) (r : Answered StoredPlan Reason) → read_file file (word_counts_of before) ≡ restored (kept_of p) → Loads file before after r
     → GivesBack p before after r
 gives_back p file before after r e a =
     let h = subst (λ (x : Read). Restored x before after) e a.held in record {
@@ -55,12 +54,12 @@ gives_back p file before after r e a =
 
 -- for every accepted program, every buffer and every file that is long enough
 pub call_written : (h : Head) (ws : List ℕ) (before after : Buffers) (file filed : List ℕ) (n : ℕ) → h.initial_k < 2 ^ 64
-    → Stores h ws before after file filed (Ok n) → (p : Plan) × (plan_of h ws (Outputs.lengths_of before) ≡ planned p) × Written p filed n
+    → Stores h ws before after file filed (Ok n) → (p : Plan) × (plan_of h ws (lengths_of before) ≡ planned p) × Written p filed n
 call_written h ws before after file filed n small a =
-    let l = Outputs.lengths_of before in
+    let l = lengths_of before in
     let it = stored_plan (length file) (plan_of h ws l) n a.answer in
     let p = it.0 in
-    let bytes : filed ≡ padded (length file) (file_of p) = a.bytes ∙ ap (held_after (length file) file_of) it.2 in
+    let bytes : filed ≡ padded (length file) (file_of p) = a.bytes ∙ ap (λ (x : Result). padded (length file) (file_in x)) it.2 in
     let same = front_of_padded (length file) n (file_of p) filed it.3 bytes in (
       p,
       it.1,
@@ -70,6 +69,6 @@ call_written h ws before after file filed n small a =
         trailer = ap (λ (f : List ℕ). trailer_word f 14) same ∙ own_length h ws l p small it.1 ∙ sym it.3;
         back = λ lent left r long loads.
             gives_back p (take n filed) lent left r
-            (ap (λ (f : List ℕ). read_file f (lengths_of lent)) same ∙ plan_restored h ws l p small it.1 (lengths_of lent) long) loads;
+            (ap (λ (f : List ℕ). read_file f (word_counts_of lent)) same ∙ plan_restored h ws l p small it.1 (word_counts_of lent) long) loads;
       },
     )

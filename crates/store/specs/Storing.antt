@@ -1,13 +1,13 @@
--- What the contract of `store` says: its answer, the seven buffers and every byte of the file. Written from 02, CR 2.
-use Rattle.std.specs.Prelude.{ℕ, ◌≡◌, ◌≤◌, List, length, take, Result as Answered, Ok, Err, nat_lt}
+-- What the contract of `store` says: its answer, the seven buffers and every byte of the file.
+-- Written from 02, CR 2.
+use Rattle.std.specs.Prelude.{ℕ, ◌≡◌, ◌≤◌, List, [], length, take, Result as Answered, Ok, Err, nat_lt}
 use Rattle.refusals.specs.Numbers.{number_of}
 use Rattle.refusals.specs.declared.Refusal.{Refusal}
 use Rattle.records.specs.declared.Head.{Head}
-use Rattle.plan_spec.specs.Plan.{Lengths, Result, planned, refused_at, refuse_all, plan_of, held_after}
-use Rattle.plan_buffers.specs.Outputs.{Buffers, lengths_of}
+use Rattle.plan_spec.specs.Plan.{Lengths, Result, planned, refused_at, refuse_all, plan_of, padded}
+use Rattle.plan_buffers.specs.SevenBuffers.{Buffers, lengths_of, Held}
 use Rattle.plan_buffers.specs.declared.WordCounts.{WordCounts}
-use Rattle.plan_buffers.specs.Stored.{Outputs}
-use Rattle.lent.specs.Lent.{Held}
+use Rattle.plan_buffers.specs.SixOutputs.{Outputs}
 use Rattle.answer.specs.declared.ActiveComponentPlan.{ActiveComponentPlan}
 use Rattle.stored_plan.specs.Stored.{Kept, file_of}
 use Rattle.plan_file.specs.Writing.{kept_in}
@@ -17,7 +17,8 @@ abbrev pub fitting : ℕ → Result → Result
 fitting n (planned p) = refuse_all (nat_lt n (length (file_of p))) 23 (planned p)
 fitting n (refused_at number index) = refused_at number index
 
--- what storing gives for a head, the record words, the lengths of the lent buffers and that of the file
+-- what storing gives for a head, the record words, the lengths of the lent buffers and that of
+-- the file
 abbrev pub store_of : Head → List ℕ → Lengths → ℕ → Result
 store_of h ws l n = fitting n (plan_of h ws l)
 
@@ -36,11 +37,19 @@ abbrev pub outcome_in : Result → Outcome
 outcome_in (planned p) = written (length (file_of p))
 outcome_in (refused_at number index) = turned_away number index
 
--- the answer, every buffer and every byte of the file are the definition's: "Unused bytes and words, and after a refusal all outputs and the writer's file, are zero"
-pub record Stores (h : Head) (ws : List ℕ) (before after : Buffers) (file filed : List ℕ) (r : Answered ℕ Refusal) : Type 0 where
+-- the file of a plan; a refusal has none
+abbrev pub file_in : Result → List ℕ
+file_in (planned p) = file_of p
+file_in (refused_at number index) = []
+
+-- the answer, every buffer and every byte of the file are the definition's: "Unused bytes and
+-- words, and after a refusal all outputs and the writer's file, are zero"
+pub record Stores (h : Head) (ws : List ℕ) (before after : Buffers) (file filed : List ℕ)
+    (r : Answered ℕ Refusal) : Type 0 where
   pub answer : outcome_of r ≡ outcome_in (store_of h ws (lengths_of before) (length file))
   pub held : Held (store_of h ws (lengths_of before) (length file)) before after
-  pub bytes : filed ≡ held_after (length file) file_of (store_of h ws (lengths_of before) (length file))
+  pub bytes : filed
+      ≡ padded (length file) (file_in (store_of h ws (lengths_of before) (length file)))
 
 -- ---- what the function below `store` says
 

@@ -1,20 +1,20 @@
-//! Storing a plan: head and records are planned into the seven outputs, and the plan's file is then written from them into lent
-//! bytes. Nothing is allocated, and no copy of the file is made.
+//! Storing a plan: head and records are planned into the seven outputs, and the plan's file is
+//! then written from them into lent bytes. Nothing is allocated, and no copy of the file is made.
 #![tactic(auto)]
 
 ghost use Rattle.std.specs.Prelude.{◌≡◌, ◌*◌, ◌≤◌, length};
 ghost use Rattle.plan_spec.specs.Plan.{padded};
-ghost use Rattle.plan_buffers.specs.Outputs.{buffers_of};
-ghost use Rattle.plan_buffers.specs.Stored.{outputs_of, SameOutputs};
+ghost use Rattle.plan_buffers.specs.SevenBuffers.{buffers_of};
+ghost use Rattle.plan_buffers.specs.SixOutputs.{outputs_of, SameOutputs};
 ghost use Rattle.stored_plan.specs.Stored.{bytes_of};
 ghost use Rattle.plan_file.specs.Writing.{words_for};
 ghost use Rattle.store.specs.Storing.{UsedInside, used_of, Stores};
 
 use answer::ActiveComponentPlan;
 use component_plan::build_active_component_plan;
-use lent::clear_all;
 use plan_buffers::StoredOutputs;
 use plan_buffers::buffers::fill_from;
+use plan_buffers::seven::clear_all;
 use plan_file::{Sections, word_count, write_file};
 use records::Head;
 use refusals::{Reason, Refusal};
@@ -37,8 +37,8 @@ fn write_used(plan: ActiveComponentPlan, out: &StoredOutputs, file: &mut [u8])
     write_file(plan, &sections, file);
 }
 
-/// Plans head and records into the seven outputs and stores the plan in the file, whose length in bytes is given; or gives the
-/// first refusal, after which outputs and file are zero.
+/// Plans head and records into the seven outputs and stores the plan in the file, whose length in
+/// bytes is given; or gives the first refusal, after which outputs and file are zero.
 pub fn store(
     head: Head,
     records: &[u64],
@@ -47,7 +47,11 @@ pub fn store(
     file: &mut [u8],
 ) -> Result<usize, Refusal>
     ensures same { SameOutputs out.old out.new }
-    ensures stores { Stores head records.now (buffers_of out.old groups.old) (buffers_of out.new groups.new) file.old file.new result }
+    ensures stores {
+        let before = buffers_of out.old groups.old in
+        let after = buffers_of out.new groups.new in
+        Stores head records.now before after file.old file.new result
+    }
 {
     let plan = match build_active_component_plan(head, records, out, groups) {
         Ok(plan) => plan,

@@ -11,7 +11,7 @@ use Rattle.std.proofs.Common.{rules}
 use Rattle.std.proofs.lemmas.Grind.{common_steps}
 use Rattle.plan_spec.specs.Lists.{numbers_from}
 use Rattle.plan_buffers.specs.declared.WordCounts.{WordCounts}
-use Rattle.plan_buffers.specs.Stored.{outputs_short}
+use Rattle.plan_buffers.specs.SixOutputs.{outputs_short}
 use Rattle.file_words.specs.Words.{word_at, words_at}
 use Rattle.file_words.proofs.Bytes.{length_words}
 use Rattle.stored_plan.specs.Stored.{Kept}

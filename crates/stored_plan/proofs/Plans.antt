@@ -17,7 +17,7 @@ use Rattle.plan_spec.specs.Plan.{Lengths, Plan, planned, plan_of}
 use Rattle.plan_spec.specs.Laws.{Words}
 use Rattle.plan_spec.proofs.Words.{words_append, flag_word_lem, plan_words, works_fit, plan_counts}
 use Rattle.plan_buffers.specs.declared.WordCounts.{WordCounts}
-use Rattle.plan_buffers.specs.Stored.{outputs_short}
+use Rattle.plan_buffers.specs.SixOutputs.{outputs_short}
 use Rattle.file_words.proofs.Bytes.{length_bytes}
 use Rattle.stored_plan.specs.Stored.{Kept, kept_of, scalars_of, sections_of, trailer_of, words_of, file_of}
 use Rattle.stored_plan.specs.Reading.{restored, trailer_word, counts_of, odd_counts, counts_refused, read_file}

@@ -3,8 +3,9 @@ use Rattle.std.specs.Prelude.{ℕ, ◌+◌, ◌*◌, ◌≤◌, ◌≡◌, List,
 use Rattle.plan_spec.specs.Lists.{numbers_from}
 use Rattle.plan_spec.specs.Plan.{padded}
 use Rattle.plan_buffers.specs.declared.WordCounts.{WordCounts}
-use Rattle.plan_buffers.specs.Stored.{Outputs, lengths_of}
 use Rattle.stored_plan.specs.Stored.{trailer_words, Kept}
+use Rattle.plan_buffers.specs.SixOutputs.{Outputs, word_counts_of}
+use Rattle.plan_buffers.specs.SevenBuffers.{lengths_of}
 use Rattle.stored_plan.specs.Reading.{Read, restored, refused, trailer_word, counts_of, read_file}
 use Rattle.stored_plan.specs.declared.ScalarWords.{ScalarWords}
 use Rattle.refusals.specs.Numbers as Reasons
@@ -47,8 +48,8 @@ pub record Restored (r : Read) (before after : Outputs) : Type 0 where
 
 -- the answer and every output are those of reading the file
 pub record Loads (file : List ℕ) (before after : Outputs) (r : Result StoredPlan Reason) : Type 0 where
-  pub answer : outcome_of r ≡ outcome_in (read_file file (lengths_of before))
-  pub held : Restored (read_file file (lengths_of before)) before after
+  pub answer : outcome_of r ≡ outcome_in (read_file file (word_counts_of before))
+  pub held : Restored (read_file file (word_counts_of before)) before after
 
 -- ---- what the functions below `load` say
 

@@ -4,7 +4,7 @@ use Rattle.std.specs.Prelude.{if◌then◌else◌, ℕ, ◌+◌, ◌-◌, ◌*�
 use Rattle.plan_spec.specs.Rows.{measurement_words, rotation_words, step_words}
 use Rattle.plan_spec.specs.Lists.{numbers_from}
 use Rattle.plan_buffers.specs.declared.WordCounts.{WordCounts}
-use Rattle.plan_buffers.specs.Stored.{outputs_short}
+use Rattle.plan_buffers.specs.SixOutputs.{outputs_short}
 use Rattle.file_words.specs.Words.{word_at, words_at}
 use Rattle.stored_plan.specs.Stored.{file_version, trailer_words, Kept}
 

@@ -5,7 +5,7 @@
 ghost use Rattle.std.specs.Prelude.{◌≡◌, if◌then◌else◌, ◌+◌, ◌*◌, ◌≤◌, length, IfOk};
 ghost use Rattle.plan_spec.specs.Plan.{padded};
 ghost use Rattle.file_words.specs.Words.{words_at};
-ghost use Rattle.plan_buffers.specs.Stored.{outputs_of, SameOutputs};
+ghost use Rattle.plan_buffers.specs.SixOutputs.{outputs_of, SameOutputs};
 ghost use Rattle.stored_plan.specs.Reading.{file_refused, touch, odd_counts, read_file};
 ghost use Rattle.refusals.specs.Answer.{number_or_0};
 ghost use Rattle.stored_plan.specs.Loading.{Loads, number_of, scalar_list, trailer_in, pointers_in, counts_in};

@@ -13,7 +13,7 @@ use Rattle.records.proofs.Laws.{instructions_length}
 use Rattle.plan_spec.specs.Lists.{numbers_from}
 use Rattle.plan_spec.specs.Components.{live_dimension}
 use Rattle.plan_spec.specs.Walk.{Walk, start, walk_from, Walked, finished}
-use Rattle.plan_spec.specs.Plan.{groups_of}
+use Rattle.plan_spec.specs.Plan.{groups_of, buffers_refused}
 use Rattle.plan_spec.specs.Connectivity.{active_start, active_after}
 use Rattle.plan_spec.proofs.Counting.{length-numbers}
 use Rattle.plan_spec.proofs.Steps.{done}
@@ -27,7 +27,7 @@ use Rattle.plan_buffers.specs.Buffers.{counts_of, placed_up_to}
 use Rattle.state_model.specs.Represents.{Ordered}
 use Rattle.state_model.proofs.Moving.{represents_start}
 use Rattle.state_model.proofs.Groups.{GroupsWritten, groups_written}
-use Rattle.plan_buffers.specs.Outputs.{Buffers, SameLengths, lengths_of}
+use Rattle.plan_buffers.specs.SevenBuffers.{Buffers, SameLengths, lengths_of}
 use Rattle.walk.specs.Walking.{WalkEnds, Walkable}
 use Rattle.walk.specs.Looping.{Reached}
 use Rattle.walk.proofs.Reaching.{tracked, made, active_most, groups_small}
@@ -86,8 +86,7 @@ module _ (limit k : ℕ) (ws : List ℕ) (b : Buffers) (ok : Walkable k ws b) (i
       let r = active_after (active_start k) (take i (instructions_of ws)) in
       let tr = tracked limit k ws b ok i upto w s t c at in
       let few = groups_small limit k ws b ok i upto w s t c at in
-      let room = (enough (length ws / 8) (lengths_of b) ok.room).groups in
-      let l = long.groups in
+      let room = (enough (length ws / 8) (lengths_of c) (ap (buffers_refused (length ws / 8)) long ∙ ok.room)).groups in
       groups_written s w.components (active_of w r) (tracked_here w r tr) at.rep o ordered (made limit k ws b ok i upto w s t c at) (active_most limit k ws b ok i upto w s t c at)
       c.groups (omega arith) few
 

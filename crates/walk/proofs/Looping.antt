@@ -27,7 +27,7 @@ use Rattle.work_sums.specs.Tally.{start_tally, joining_of, ignored_tally}
 use Rattle.plan_buffers.specs.Buffers.{patch, counts_of, CountsFit, placed_up_to, PlacesFit}
 use Rattle.state_model.specs.Represents.{Ordered, Represents}
 use Rattle.state_model.proofs.Moving.{ordered_start, ordered_promotion, ordered_removal}
-use Rattle.plan_buffers.specs.Outputs.{Buffers, SameLengths}
+use Rattle.plan_buffers.specs.SevenBuffers.{Buffers, lengths_of, SameLengths}
 use Rattle.walk.specs.Walking.{Begins, WalkEnds, Walkable}
 use Rattle.walk.specs.Looping.{Reached, Looping, Joins, JoinMade, sources_of, Met}
 use Rattle.record_steps.specs.RecordSteps.{sources_at, GatherFits, number_before, sources_before, WhereJoined, join_before, progress_of, JoinedFits, rotation_answer, RotationDone, measurement_answer, MeasurementDone, PromotionFits, PromotionDone}
@@ -63,18 +63,6 @@ reached_same {w = w} at e steps merges sizes rotations promotions measurements =
 no_words : (xs : List ℕ) → length xs ≡ 0 → xs ≡ []
 no_words [] e = refl
 no_words (x ∷ xs) e = absurd (omega arith)
-
--- a buffer that keeps its length twice keeps it
-longer : {a b c : Buffers} → SameLengths a b → SameLengths b c → SameLengths a c
-longer f g = record {
-  steps = g.steps ∙ f.steps;
-  merges = g.merges ∙ f.merges;
-  sizes = g.sizes ∙ f.sizes;
-  rotations = g.rotations ∙ f.rotations;
-  promotions = g.promotions ∙ f.promotions;
-  measurements = g.measurements ∙ f.measurements;
-  groups = g.groups ∙ f.groups;
-}
 
 -- the kinds that do nothing: neither a rotation nor a promotion nor a measurement
 pub does_nothing : (limit : ℕ) (w : Walk) (width : ℕ) (f : ℕ → ℕ → List ℕ) (x : Instruction)
@@ -151,7 +139,7 @@ module _ {limit k : ℕ} {ws : List ℕ} {i : ℕ} {o : List ℕ} {s : State} {t
     -- one record more
     on : {o' : List ℕ} {u : State} {t' : Tally} {c' : Buffers} (v : Walk) → Reached limit k (instructions_of ws) (i + 1) v u t' c' → SameLengths c c' → Ordered o' v.order
         → Looping limit k ws (i + 1) o' u t' c'
-    on v at long ordered = record { b = lo.b; ok = lo.ok; upto = omega arith; long = longer lo.long long; w = v; at = at; ordered = ordered }
+    on v at long ordered = record { b = lo.b; ok = lo.ok; upto = omega arith; long = long ∙ lo.long; w = v; at = at; ordered = ordered }
 
     -- ---- a record that joins
 
@@ -418,7 +406,7 @@ begins limit k ws b sizes o s t ok numbered started sums filled long = record {
   b = b;
   ok = ok;
   upto = omega arith;
-  long = record { steps = refl; merges = refl; sizes = long; rotations = refl; promotions = refl; measurements = refl; groups = refl };
+  long = ap (λ (n : ℕ). record (lengths_of b) { sizes = n }) long;
   w = start k;
   at = subst (λ (a : Tally). Reached limit k (instructions_of ws) 0 (start k) s a (with_sizes b sizes)) (sym sums)
       (reached_start limit k (instructions_of ws) s (with_sizes b sizes) b.sizes started filled);

@@ -31,6 +31,7 @@ use Rattle.plan_spec.proofs.Steps.{cond_yes, cond_no}
 use Rattle.plan_spec.proofs.Growth.{row_count, length_concat}
 use Rattle.plan_spec.proofs.Tracking.{Tracked, tracked_here, target_below, target_members, join_length, join_peak_is, measurement_keeps}
 use Rattle.plan_spec.proofs.WholeWorks.{reached_within}
+use Rattle.plan_spec.specs.Plan.{buffers_refused}
 use Rattle.plan_spec.proofs.Room.{JoinKept, join_kept, width_of, Enough, enough}
 use Rattle.state.specs.declared.State.{State}
 use Rattle.work_sums.specs.declared.Tally.{Tally}
@@ -43,7 +44,7 @@ use Rattle.plan_buffers.specs.Buffers.{patch}
 use Rattle.state_model.specs.Represents.{Represents}
 use Rattle.state_model.proofs.Moving.{represents_promotion, before_removal, represents_removal}
 use Rattle.state_model.proofs.Sums.{live_removal, live_promotion}
-use Rattle.plan_buffers.specs.Outputs.{Buffers, SameLengths, lengths_of}
+use Rattle.plan_buffers.specs.SevenBuffers.{Buffers, SameLengths, lengths_of}
 use Rattle.walk.specs.Walking.{Begins, Tallied, Walkable}
 use Rattle.walk.specs.Looping.{Reached}
 use Rattle.record_steps.specs.RecordSteps.{raised, sources_at, GatherFits, number_before, sources_before, WhereJoined, progress_of, local_action_of, JoinedFits, rotation_answer, RotationDone, measurement_answer, MeasurementDone, PromotionFits, PromotionDone}
@@ -106,8 +107,8 @@ module _ (limit k : ℕ) (ws : List ℕ) (b : Buffers) (ok : Walkable k ws b) (i
   pub few : length w.components ≤ 512
   few = made limit k ws b ok i upto w s t c at
 
-  room : Enough (length ws / 8) (lengths_of b)
-  room = enough (length ws / 8) (lengths_of b) ok.room
+  room : Enough (length ws / 8) (lengths_of c)
+  room = enough (length ws / 8) (lengths_of c) (ap (buffers_refused (length ws / 8)) long ∙ ok.room)
 
   rows : row_count w.written ≤ i
   rows = rows_written limit k ws b ok i upto w s t c at
@@ -151,7 +152,6 @@ module _ (limit k : ℕ) (ws : List ℕ) (b : Buffers) (ok : Walkable k ws b) (i
         let m = at.sums.merges in
         let q = joins.spare in
         let r = rows in
-        let l = long.merges in
         let f = few in
         let e = room.merges in omega arith
 
@@ -243,8 +243,8 @@ module _ (limit k : ℕ) (ws : List ℕ) (b : Buffers) (ok : Walkable k ws b) (i
         x_fits = let e = x_mask_is in let f = J.mask_fits w roll tr s at.rep few x z active narrow u to x in omega arith;
         z_fits = let e = z_mask_is in let f = J.mask_fits w roll tr s at.rep few x z active narrow u to z in omega arith;
         sums = join_fits;
-        step_room = let e = room.steps in let l = long.steps in omega arith;
-        size_room = let e = join_target in let f = target_below w roll tr x z active in let q = few in let r = room.sizes in let l = long.sizes in omega arith;
+        step_room = let e = room.steps in omega arith;
+        size_room = let e = join_target in let f = target_below w roll tr x z active in let q = few in let r = room.sizes in omega arith;
       }
 
       -- the longest sizes
@@ -279,7 +279,7 @@ module _ (limit k : ℕ) (ws : List ℕ) (b : Buffers) (ok : Walkable k ws b) (i
       -- ---- a rotation
 
       pub rotation_room : 21 * t.rotations + 21 ≤ length c.rotations
-      rotation_room = let e = room.rotations in let l = long.rotations in let r = rows in let m = at.sums.rotations in omega arith
+      rotation_room = let e = room.rotations in let r = rows in let m = at.sums.rotations in omega arith
 
       module _ (width phase : ℕ) (angle sine cosine : Float) (is_now : now ≡ Rotation width x z phase angle sine cosine) (wide : width ≡ length w.order) where
         rotation_same : rotation_answer u.place (pauli_of x z phase) (angle_of angle sine cosine) here join.size ≡ rotation limit (local_action x z phase w j) phase angle sine cosine
@@ -338,7 +338,7 @@ module _ (limit k : ℕ) (ws : List ℕ) (b : Buffers) (ok : Walkable k ws b) (i
       -- ---- a measurement
 
       pub measurement_room : 19 * t.measurements + 19 ≤ length c.measurements
-      measurement_room = let e = room.measurements in let l = long.measurements in let r = rows in let m = at.sums.measurements in omega arith
+      measurement_room = let e = room.measurements in let r = rows in let m = at.sums.measurements in omega arith
 
       module _ (width phase pivot : ℕ) (is_now : now ≡ Measurement width x z phase pivot) (wide : width ≡ length w.order) where
         abbrev answer : Answer PrecomputedActivePauliMeasurementKernel
@@ -493,7 +493,7 @@ module _ (limit k : ℕ) (ws : List ℕ) (b : Buffers) (ok : Walkable k ws b) (i
   -- ---- records that join nothing
 
   pub step_room : 2 * i + 2 ≤ length c.steps
-  step_room = let e = room.steps in let l = long.steps in omega arith
+  step_room = let e = room.steps in omega arith
 
   pub quantum_room : t.quantum + 1 < 2 ^ 64
   quantum_room = let e = at.sums.quantum in let q = quantum in let m = small in omega arith
@@ -594,9 +594,9 @@ module _ (limit k : ℕ) (ws : List ℕ) (b : Buffers) (ok : Walkable k ws b) (i
       narrow = let e = at.rep.width in let f = active_fewer in omega arith;
       live = let e = at.sums.live in let l = live in omega arith;
       quantum = quantum_room;
-      row_room = let e = room.promotions in let l = long.promotions in let r = rows in let m = at.sums.promotions in omega arith;
+      row_room = let e = room.promotions in let r = rows in let m = at.sums.promotions in omega arith;
       step_room = step_room;
-      size_room = let e = at.rep.count in let f = fewer in let r = room.sizes in let l = long.sizes in omega arith;
+      size_room = let e = at.rep.count in let f = fewer in let r = room.sizes in omega arith;
     }
 
     pub promotion_goes : (t' : Tally) (c' : Buffers)

@@ -25,7 +25,7 @@ use Rattle.plan_spec.proofs.Tracking.{Tracked, start_tracked, run_tracked}
 use Rattle.plan_spec.proofs.Room.{or-false, Kept, Narrow, width_of, run_kept, start_kept, component_count, rows_most, steps_count, live_dimension_below, groups_most, passed_narrow, passed_promotions}
 use Rattle.state.specs.declared.State.{State}
 use Rattle.work_sums.specs.declared.Tally.{Tally}
-use Rattle.plan_buffers.specs.Outputs.{Buffers}
+use Rattle.plan_buffers.specs.SevenBuffers.{Buffers}
 use Rattle.walk.specs.Walking.{Walkable}
 use Rattle.walk.specs.Looping.{Reached}
 

@@ -11,8 +11,8 @@ use Rattle.records.specs.Record.{instructions_of}
 use Rattle.plan_spec.specs.Walk.{start, walk_from, stopped}
 use Rattle.state.specs.declared.State.{State}
 use Rattle.work_sums.specs.declared.Tally.{Tally}
-use Rattle.plan_buffers.specs.Outputs.{Buffers}
 use Rattle.walk.specs.Looping.{StepEnds}
+use Rattle.plan_buffers.specs.SevenBuffers.{Buffers}
 
 pub step_stops : (limit k : ℕ) (ws : List ℕ) (i : ℕ) (o : List ℕ) (s : State) (t : Tally) (c : Buffers) (r : Result Unit Reason) (reason : Reason)
     → IsErr r × IsErrAnd r (λ e. e ≡ reason) → walk_from limit 0 (start k) (instructions_of ws) ≡ stopped (number_of reason) i → StepEnds limit k ws i r o s t c

@@ -17,11 +17,11 @@ use Rattle.kernels.specs.declared.active.PrecomputedActivePauliMeasurementKernel
 use Rattle.work_sums.specs.declared.Tally.{Tally}
 use Rattle.work_sums.specs.declared.Joining.{Joining}
 use Rattle.state_model.specs.Represents.{Ordered, Represents}
-use Rattle.plan_buffers.specs.Outputs.{Buffers, SameLengths}
 use Rattle.plan_buffers.specs.declared.StoredOutputs.{StoredOutputs}
 use Rattle.record_steps.specs.RecordSteps.{sources_at, GatherFits, sources_before, WhereJoined, Opened, Progress, progress_of, measurement_answer}
 use Rattle.record_steps.specs.declared.Pauli.{Pauli}
 use Rattle.record_steps.specs.declared.AtRecord.{AtRecord}
+use Rattle.plan_buffers.specs.SevenBuffers.{Buffers, SameLengths}
 use Rattle.walk.specs.Walking.{Begins, Tallied, Walkable}
 
 -- ---- the loop

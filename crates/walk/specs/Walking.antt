@@ -9,7 +9,7 @@ use Rattle.plan_spec.specs.Components.{live_dimension}
 use Rattle.plan_spec.specs.Walk.{Walk, Walked, finished, stopped}
 use Rattle.plan_spec.specs.Plan.{groups_of, words_refused, buffers_refused}
 use Rattle.work_sums.specs.declared.Tally.{Tally}
-use Rattle.plan_buffers.specs.Outputs.{Buffers, lengths_of}
+use Rattle.plan_buffers.specs.SevenBuffers.{Buffers, lengths_of}
 use Rattle.walk.specs.declared.Summary.{Summary}
 
 -- the words stand in front

@@ -6,8 +6,8 @@ ghost use Rattle.std.specs.Prelude.{◌≡◌, ◌+◌, ◌*◌, ◌<◌, ◌≤
 ghost use Rattle.records.specs.Record.{instructions_of};
 ghost use Rattle.plan_spec.specs.Rows.{measurement_words, rotation_words};
 ghost use Rattle.plan_spec.specs.Walk.{start, walk_from};
-ghost use Rattle.plan_buffers.specs.Outputs.{buffers_of};
-ghost use Rattle.plan_buffers.specs.Stored.{SameOutputs};
+ghost use Rattle.plan_buffers.specs.SevenBuffers.{buffers_of};
+ghost use Rattle.plan_buffers.specs.SixOutputs.{SameOutputs};
 ghost use Rattle.plan_buffers.specs.Buffers.{patch};
 ghost use Rattle.plan_rows.specs.Steps.{kind_number};
 ghost use Rattle.record_steps.specs.RecordSteps.{Settled, JoinedFits, rotation_answer, RotationDone, MeasurementDone, PromotionFits, PromotionDone};

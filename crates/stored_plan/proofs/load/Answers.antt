@@ -8,7 +8,7 @@ use Rattle.file_words.specs.Words.{words_at}
 use Rattle.std.specs.Prelude.{ℕ}
 use Rattle.refusals.proofs.Laws.{positive}
 use Rattle.plan_buffers.specs.declared.WordCounts.{WordCounts}
-use Rattle.plan_buffers.specs.Stored.{Outputs, lengths_of, outputs_of}
+use Rattle.plan_buffers.specs.SixOutputs.{Outputs, word_counts_of, outputs_of}
 use Rattle.stored_plan.specs.Reading.{Read, read_file}
 use Rattle.stored_plan.specs.Loading.{number_of, given, outcome_in, Restored, trailer_in, counts_in}
 use Rattle.stored_plan.proofs.Accepting.{counts_are, accepted, refused_is, Room}
@@ -20,7 +20,7 @@ returns-in-Err-clause-loads c =
     let before : Outputs = outputs_of c.args.out.now in
     let after : Outputs = outputs_of c.clear.new.self in
     let told = c.in-Err.ensures.number ∙ ap (λ (l : WordCounts). number_of (read_file file l)) c.lengths-lent.ensures in
-    let refusal = refused_is file (lengths_of before) _ told (λ e. absurd (omega (arith, positive c.in-Err.reason, e))) in record {
+    let refusal = refused_is file (word_counts_of before) _ told (λ e. absurd (omega (arith, positive c.in-Err.reason, e))) in record {
       answer = sym (ap outcome_in refusal);
       held = subst (λ (r : Read). Restored r before after) (sym refusal) (search rules);
     }
@@ -55,7 +55,7 @@ returns-in-Ok-clause-loads c =
     let before : Outputs = outputs_of c.args.out.now in
     let after : Outputs = (record { steps = c.get_section.new.output; merges = c.get_section-in-Ok.new.output; sizes = c.get_section-in-Ok-2.new.output; rotations = c.get_section-in-Ok-3.new.output; promotions = c.get_section-in-Ok-4.new.output; measurements = c.get_section-in-Ok-5.new.output }) in
     let told = c.in-Ok.ensures.number ∙ ap (λ (l : WordCounts). number_of (read_file file l)) c.lengths-lent.ensures in
-    let ok = accepted file (lengths_of before) (sym told) in
+    let ok = accepted file (word_counts_of before) (sym told) in
     let trailer = c.in-Ok.ensures.trailer in record {
       answer =
           ap₂ given

@@ -7,7 +7,7 @@ use Rattle.refusals.specs.declared.Refusal.{Refusal}
 use Rattle.plan_spec.specs.Walk.{Walked}
 use Rattle.walk.specs.Walking.{WalkEnds}
 use native.Mathlib.Omega.{arith}
-use Rattle.plan_buffers.specs.Outputs.{buffers_of}
+use Rattle.plan_buffers.specs.SevenBuffers.{buffers_of}
 use Rattle.walk.proofs.Looping.{begins, count_small, groups_fit, places_fit, finishes}
 use Rattle.walk.proofs.walk.Goals as goal
 
@@ -25,11 +25,11 @@ write_counts-starts-requires-clause-few c = count_small c.loop-index.invariant.0
 
 pub write_members-requires : goal.write_members-requires
 write_members-requires c =
-    places_fit c.loop-index.invariant.0 (omega (arith, c.loop-index-test.false)) _ c.write_counts-starts.new.groups c.write_counts-starts.ensures.0 c.write_counts-starts.ensures.2
+    places_fit c.loop-index.invariant.0 (omega (arith, c.loop-index-test.false)) _ c.write_counts-starts.new.groups c.write_counts-starts.ensures.start c.write_counts-starts.ensures.groups
 
 pub returns-clause-walked : goal.returns-clause-walked
 returns-clause-walked c =
-    finishes c.loop-index.invariant.0 (omega (arith, c.loop-index-test.false)) c.write_counts-starts.result.used c.write_counts-starts.result.start c.write_counts-starts.new.groups c.write_members.new.groups c.write_counts-starts.ensures.1 c.write_counts-starts.ensures.0 c.write_counts-starts.ensures.2 c.write_members.ensures
+    finishes c.loop-index.invariant.0 (omega (arith, c.loop-index-test.false)) c.write_counts-starts.result.used c.write_counts-starts.result.start c.write_counts-starts.new.groups c.write_members.new.groups c.write_counts-starts.ensures.used c.write_counts-starts.ensures.start c.write_counts-starts.ensures.groups c.write_members.ensures
 
 pub returns-in-Err-clause-walked : goal.returns-in-Err-clause-walked
 returns-in-Err-clause-walked c =

@@ -1,5 +1,5 @@
-use Rattle.plan_buffers.specs.Outputs.{buffers_of}
-use Rattle.plan_buffers.specs.Stored.{SameOutputs}
+use Rattle.plan_buffers.specs.SevenBuffers.{buffers_of}
+use Rattle.plan_buffers.specs.SixOutputs.{SameOutputs}
 use Rattle.walk.specs.Looping.{Looping}
 use Rattle.walk.proofs.walk.Given as goal
 

@@ -3,7 +3,7 @@ use Rattle.std.proofs.Common.{◌≡◌, ℕ, ◌<◌, ◌≤◌, true, false, p
 use borrow.Author.Tests.{lt-leb}
 use lib.Ieee.{Float, fin, binary64, mul, sub, le, of_int, of_bits, round}
 use Rattle.plan_spec.specs.Plan.{least_ratio, most_share, chosen}
-use Rattle.lent.proofs.choose.Goals as goal
+use Rattle.answer.proofs.choose.Goals as goal
 
 module _ (quantum : ℕ) (dense component : Float) (allocated peak : ℕ) where
   -- too few

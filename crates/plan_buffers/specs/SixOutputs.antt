@@ -1,10 +1,11 @@
--- The six lent outputs that a stored plan has too: the words behind a `StoredOutputs`, their lengths, and that one lends the same outputs as another.
+-- The six lent outputs that a stored plan has too: the words behind a `StoredOutputs`, how many
+-- there are, and that one lends the same outputs as another.
 use Rattle.std.specs.Prelude.{ℕ, ◌≡◌, List, [], length, Bool, ◌||◌, nat_lt}
 use Rattle.plan_spec.specs.Plan.{padded}
 use Rattle.plan_buffers.specs.declared.WordCounts.{WordCounts}
 use Rattle.plan_buffers.specs.declared.StoredOutputs.{StoredOutputs}
 
--- the six lent outputs
+-- words of the six outputs
 pub record Outputs : Type 0 where
   pub steps : List ℕ
   pub merges : List ℕ
@@ -13,8 +14,9 @@ pub record Outputs : Type 0 where
   pub promotions : List ℕ
   pub measurements : List ℕ
 
-abbrev pub lengths_of : Outputs → WordCounts
-lengths_of b = record {
+-- how many words each has
+abbrev pub word_counts_of : Outputs → WordCounts
+word_counts_of b = record {
   steps = length b.steps;
   merges = length b.merges;
   sizes = length b.sizes;
@@ -34,16 +36,7 @@ outputs_of o = record {
   measurements = o.measurements.now;
 }
 
--- an output keeps its length
-pub record SameLengths (before after : Outputs) : Type 0 where
-  pub steps : length after.steps ≡ length before.steps
-  pub merges : length after.merges ≡ length before.merges
-  pub sizes : length after.sizes ≡ length before.sizes
-  pub rotations : length after.rotations ≡ length before.rotations
-  pub promotions : length after.promotions ≡ length before.promotions
-  pub measurements : length after.measurements ≡ length before.measurements
-
--- each output is the one that was lent, and not another in its place
+-- each output is the one that was lent, and not another in its place, and as long
 pub record SameOutputs (before after : StoredOutputs) : Type 0 where
   pub steps : after.steps.ghost_name ≡ before.steps.ghost_name
   pub merges : after.merges.ghost_name ≡ before.merges.ghost_name
@@ -51,7 +44,7 @@ pub record SameOutputs (before after : StoredOutputs) : Type 0 where
   pub rotations : after.rotations.ghost_name ≡ before.rotations.ghost_name
   pub promotions : after.promotions.ghost_name ≡ before.promotions.ghost_name
   pub measurements : after.measurements.ghost_name ≡ before.measurements.ghost_name
-  pub lengths : SameLengths (outputs_of before) (outputs_of after)
+  pub lengths : word_counts_of (outputs_of after) ≡ word_counts_of (outputs_of before)
 
 -- the six outputs hold zeros alone
 pub record Cleared (before after : Outputs) : Type 0 where
@@ -65,5 +58,9 @@ pub record Cleared (before after : Outputs) : Type 0 where
 -- "an output shorter than its section": one of the first counts is less than the second's
 abbrev pub outputs_short : WordCounts → WordCounts → Bool
 outputs_short lent counts =
-    nat_lt lent.steps counts.steps || nat_lt lent.merges counts.merges || nat_lt lent.sizes counts.sizes
-    || nat_lt lent.rotations counts.rotations || nat_lt lent.promotions counts.promotions || nat_lt lent.measurements counts.measurements
+    nat_lt lent.steps counts.steps
+    || nat_lt lent.merges counts.merges
+    || nat_lt lent.sizes counts.sizes
+    || nat_lt lent.rotations counts.rotations
+    || nat_lt lent.promotions counts.promotions
+    || nat_lt lent.measurements counts.measurements
