@@ -4,7 +4,6 @@ use Rattle.std.specs.Prelude.{ℕ, ◌*◌, ◌^◌, ◌<◌, length, Bool, Floa
 use Rattle.plan_spec.specs.Rows.{measurement_words, rotation_words}
 use Rattle.plan_spec.specs.WholeWorks.{WholeWorks, whole_works_of}
 use Rattle.plan_spec.specs.Plan.{Plan, Result, planned, refused_at, chosen}
-use Rattle.work_sums.specs.declared.Tally.{Tally}
 use Rattle.work_sums.specs.Tally.{works_of, whole_sums_of}
 use Rattle.plan_buffers.specs.declared.WordCounts.{WordCounts}
 use Rattle.walk.specs.declared.Summary.{Summary}
