@@ -7,6 +7,7 @@ use mathlib.Core.Path.{◌≡◌, refl, sym, ap, ◌∙◌, subst, subst₂}
 use mathlib.Core.List.{List}
 use lib.ListN.{length}
 use lib.Ieee.{Float}
+use Rattle.words.proofs.Padded.{zeroed_at}
 use Rattle.records.specs.Record.{kind, sine, cosine, record_at, instructions_of}
 use Rattle.records.specs.Sound.{UnitPair}
 use Rattle.records.specs.declared.Head.{Head}
@@ -19,7 +20,7 @@ use Rattle.plan_spec.specs.Laws.{Agree, TooWideExactly, HasDimensions, under, Ho
 use Rattle.plan_spec.proofs.Accepted.{accepted}
 use Rattle.plan_spec.proofs.Squares.{rotation_squares}
 use Rattle.plan_spec.proofs.Connected.{read_head, connected}
-use Rattle.plan_spec.proofs.Padded.{Pads, zeroed_at, connected_padded}
+use Rattle.plan_spec.proofs.Padded.{Pads, connected_padded}
 use Rattle.plan_spec.proofs.Listed.{listed_padded}
 use Rattle.plan_spec.proofs.Groups.{groups_padded}
 use Rattle.plan_spec.proofs.WholeWorks.{works_agree, too_wide_exactly}

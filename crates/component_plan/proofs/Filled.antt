@@ -5,43 +5,32 @@ use native.Mathlib.Omega.{arith}
 use native.Mathlib.Nat.{mod-eq_of_lt}
 use mathlib.Core.Path.{◌≡◌, refl, sym, ap, ap₂, ◌∙◌}
 use mathlib.Core.Bool.{Bool, true, false, cond}
-use mathlib.Core.List.{List, ◌++◌}
+use mathlib.Core.List.{List}
 use lib.Dec.{ltb}
-use lib.ListN.{length, take, replicate, length-take}
+use lib.ListN.{length, take}
 use borrow.Author.Tests.{ltb-false}
-use lib.Seq.{take-append-le, take-length}
+use Rattle.words.specs.Lists.{Begins}
+use Rattle.words.proofs.Patches.{begins_take}
 use Rattle.records.specs.Record.{instructions_of}
 use Rattle.records.proofs.Laws.{instructions_length}
 use Rattle.plan_spec.specs.Lists.{concat}
 use Rattle.plan_spec.specs.WholeWorks.{WholeSums, too_wide, quotient_of, whole_works_of}
 use Rattle.plan_spec.specs.Walk.{Walk, start}
-use Rattle.plan_spec.specs.Plan.{planned, plan_from, padded, groups_of}
+use Rattle.plan_spec.specs.Plan.{planned, plan_from, groups_of}
 use Rattle.plan_spec.proofs.Steps.{Run}
 use Rattle.plan_spec.proofs.Growth.{run_rotations, run_measurements, start_wide, length_concat}
 use Rattle.plan_spec.proofs.WholeWorks.{reached_exactly}
 use Rattle.plan_spec.proofs.Room.{longest_count, steps_count, rows_most}
 use Rattle.walk.specs.declared.Summary.{Summary}
 use Rattle.plan_buffers.specs.SevenBuffers.{Buffers, lengths_of, SameLengths, padded_buffers, first_words, result_words, Held}
-use Rattle.walk.specs.Walking.{Begins, Ended}
+use Rattle.walk.specs.Walking.{Ended}
 use Rattle.plan_buffers.specs.declared.WordCounts.{WordCounts}
 use Rattle.work_sums.specs.Tally.{whole_sums_of}
 use Rattle.answer.specs.Outcome.{used_in, used_by, UsedFit}
 
 -- n words of a buffer in whose front n words stand
 pub front_is : (n : ℕ) (ws xs : List ℕ) → n ≡ length ws → Begins ws xs → take n xs ≡ ws
-front_is n ws xs count front = ap (λ (k : ℕ). take k xs) count ∙ front
-
--- the words that stand in front are no more than there are
-pub front_fits : (ws xs : List ℕ) → Begins ws xs → length ws ≤ length xs
-front_fits ws xs front = let e = sym (length-take (length ws) xs) ∙ ap length front in omega arith
-
--- n words of a buffer that holds n and zeros
-pub front_of_padded : (m n : ℕ) (ws after : List ℕ) → n ≡ length ws → after ≡ padded m ws → take n after ≡ ws
-front_of_padded m n ws after count e =
-    ap (λ (k : ℕ). take k after) count
-    ∙ ap (λ (l : List ℕ). take (length ws) l) e
-    ∙ take-append-le (length ws) ws (replicate (m - length ws) 0) (omega arith)
-    ∙ take-length ws
+front_is n ws xs count front = begins_take ws xs n front (sym count)
 
 -- sums that are kept modulo 2 ^ 64 say the same of the works where a narrow program's sums are below that
 whole_kept : (s : WholeSums) (dense component widest : ℕ) → dense ≡ s.dense % 2 ^ 64 → component ≡ s.component % 2 ^ 64 → widest ≡ s.widest

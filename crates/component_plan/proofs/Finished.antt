@@ -6,6 +6,9 @@ use native.Mathlib.Omega.{arith}
 use mathlib.Core.Path.{◌≡◌, refl, sym, ap, ◌∙◌, subst}
 use mathlib.Core.List.{List}
 use lib.ListN.{length, take, get_or}
+use Rattle.words.specs.Words.{AllBelow}
+use Rattle.words.proofs.Patches.{begins_length}
+use Rattle.words.proofs.Words.{below_each}
 use Rattle.records.specs.Record.{instructions_of}
 use Rattle.records.specs.Pass.{Passed, record_pass}
 use Rattle.records.specs.declared.Head.{Head}
@@ -14,7 +17,6 @@ use Rattle.plan_spec.specs.Walk.{Walk, finished, start, walk_from}
 use Rattle.plan_spec.specs.Plan.{plan_from, plan_read, buffers_refused, after_walk}
 use Rattle.plan_spec.proofs.Steps.{Run, run_of_walk}
 use Rattle.plan_spec.proofs.Sizes.{reached_longest}
-use Rattle.plan_buffers.specs.Buffers.{AllBelow}
 use Rattle.plan_buffers.specs.SevenBuffers.{Buffers, lengths_of, SameLengths, padded_buffers, first_words}
 use Rattle.walk.specs.declared.Summary.{Summary}
 use Rattle.walk.specs.Walking.{Walkable, Ended, WalkEnds}
@@ -23,7 +25,7 @@ use Rattle.answer.specs.declared.ActiveComponentPlan.{ActiveComponentPlan}
 use Rattle.answer.specs.Outcome.{accepted, outcome_of, finished_outcome, used_by, UsedFit}
 use Rattle.component_plan.specs.Answer.{Filled}
 use Rattle.component_plan.specs.Refusing.{lent_number}
-use Rattle.component_plan.proofs.Filled.{front_is, front_fits, used_fit, used_same, whole_same, size_words, walk_held}
+use Rattle.component_plan.proofs.Filled.{front_is, used_fit, used_same, whole_same, size_words, walk_held}
 use Rattle.component_plan.proofs.Refusals.{lent_words, lent_few, lent_room, lent_initial, lent_passed, walk_finishes, filled_planned, plan_same}
 
 module _ (h : Head) (dense_peak : ℕ) (ws : List ℕ) (before : Buffers) (lent : 0 ≡ lent_number h.initial_k (length ws) (buffers_refused (length ws / 8) (lengths_of before)))
@@ -60,14 +62,14 @@ module _ (h : Head) (dense_peak : ℕ) (ws : List ℕ) (before : Buffers) (lent 
 
     -- the sizes that are used lie in their buffer
     pub sizes_inside : done.count ≤ length walked.sizes
-    sizes_inside = let front = front_fits ended.0.longest walked.sizes ended.2.sizes in omega (arith, sizes_counted)
+    sizes_inside = let front = begins_length ended.0.longest walked.sizes ended.2.sizes in omega (arith, sizes_counted)
 
     sizes_front : take done.count walked.sizes ≡ ended.0.longest
     sizes_front = front_is done.count ended.0.longest walked.sizes sizes_counted ended.2.sizes
 
     -- no size reaches 64
     pub sizes_below : AllBelow 64 (take done.count walked.sizes)
-    sizes_below i l = subst (λ (xs : List ℕ). get_or xs i 0 < 64) (sym sizes_front) (reached_longest 64 (omega arith) (omega arith) h.initial_k run i)
+    sizes_below = subst (AllBelow 64) (sym sizes_front) (below_each ended.0.longest λ i l. reached_longest 64 (omega arith) (omega arith) h.initial_k run i)
 
     module _ (all : ℕ) (r : ActiveComponentPlan) (sum : all ≡ allocated_for (take done.count walked.sizes))
         (made : outcome_of (Ok r) ≡ finished_outcome h.initial_k dense_peak done (length ws / 8) all) where

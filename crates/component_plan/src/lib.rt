@@ -4,8 +4,8 @@
 pub mod refusing;
 
 ghost use Rattle.std.specs.Prelude.{◌≡◌, ◌≤◌, length, take};
+ghost use Rattle.words.specs.Words.{AllBelow};
 ghost use Rattle.plan_spec.specs.Components.{allocated_for};
-ghost use Rattle.plan_buffers.specs.Buffers.{AllBelow};
 ghost use Rattle.plan_buffers.specs.SevenBuffers.{buffers_of};
 ghost use Rattle.plan_buffers.specs.SixOutputs.{SameOutputs};
 ghost use Rattle.component_plan.specs.Answer.{Answers, ReadAnswers, HeadAnswers};

@@ -9,15 +9,16 @@ use lib.Dec.{ltb}
 use lib.ListN.{length, get_or, take}
 use Rattle.std.proofs.lemmas.List.{get_or_append_left}
 use lib.Seq.{get_or-append-add}
+use Rattle.words.specs.Lists.{padded}
+use Rattle.words.proofs.Padded.{front_of_padded}
+use Rattle.words.proofs.Bytes.{length_words}
 use Rattle.records.specs.declared.Head.{Head}
 use Rattle.refusals.specs.Numbers as Reasons
-use Rattle.plan_spec.specs.Plan.{Plan, Result, planned, refused_at, refuse_all, padded, plan_of}
+use Rattle.plan_spec.specs.Plan.{Plan, Result, planned, refused_at, refuse_all, plan_of}
 use Rattle.plan_spec.proofs.Claims.{map_entries}
 use Rattle.plan_buffers.specs.declared.WordCounts.{WordCounts}
 use Rattle.plan_buffers.specs.SevenBuffers.{Buffers, lengths_of}
 use Rattle.plan_buffers.specs.SixOutputs.{Outputs, word_counts_of}
-use Rattle.component_plan.proofs.Filled.{front_of_padded}
-use Rattle.file_words.proofs.Bytes.{length_words}
 use Rattle.stored_plan.specs.Stored.{Kept, file_of}
 use Rattle.stored_plan.specs.Reading.{Read, restored, refused, counts_of, counts_refused, kept_in, file_refused, places_refused, read_file}
 use Rattle.stored_plan.specs.Loading as Loading

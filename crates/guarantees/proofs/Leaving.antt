@@ -11,12 +11,12 @@ use lib.ListN.{length, get_or}
 use Rattle.std.proofs.lemmas.List.{get_or-map}
 use lib.Ieee.{binary64, fits, of_bits}
 use lib.Ieee.Bits.{of_bits-to_bits}
+use Rattle.words.specs.Lists.{numbers_from}
+use Rattle.words.specs.Words.{flag_word}
+use Rattle.words.proofs.Numbers.{length-numbers, numbers_at}
 use Rattle.records.specs.declared.Head.{Head}
-use Rattle.plan_spec.specs.Lists.{numbers_from}
 use Rattle.plan_spec.specs.WholeWorks.{WholeWorks, too_wide, without_quotient, with_quotient, whole_words}
-use Rattle.plan_spec.specs.Walk.{flag_word}
 use Rattle.plan_spec.specs.Plan.{Lengths, Plan, Result, planned, refused_at, plan_of}
-use Rattle.plan_spec.proofs.Counting.{length-numbers, numbers_at}
 use Rattle.plan_spec.proofs.Words.{works_fit}
 use Rattle.work_sums.specs.Tally.{works_of}
 use Rattle.work_sums.specs.declared.WholeWorks as Declared

@@ -11,6 +11,8 @@ use lib.Dec.{eqb}
 use lib.ListN.{length, get_or, take, drop, length-append}
 use borrow.Author.Tests.{le-leb}
 use lib.Seq.{drop-cons, length-take-le}
+use Rattle.words.specs.Lists.{Begins, part_of}
+use Rattle.words.proofs.Patches.{begins_trans, begins_length, part_there}
 use Rattle.refusals.specs.Answer.{Answer, given, refused}
 use Rattle.records.specs.Record.{instructions_of}
 use Rattle.records.specs.declared.Head.{Head}
@@ -24,7 +26,7 @@ use Rattle.plan_spec.specs.Plan.{Plan, plan_from, plan_of, unread}
 use Rattle.plan_spec.specs.Connectivity.{listed_by}
 use Rattle.plan_spec.specs.Sources.{Listed}
 use Rattle.plan_spec.proofs.Steps.{Stepped, ignored, rotated, promoted, measured, recorded, detected, expected, branched, Run, more, run_of_walk}
-use Rattle.plan_spec.proofs.Growth.{Extends, extends_trans, extends_length, Grown, AllOf, length_concat, concat-append, concat_more, rotation_row_length, measurement_row_length, run_grown, run_rotations, run_measurements, start_wide}
+use Rattle.plan_spec.proofs.Growth.{Grown, AllOf, length_concat, concat-append, concat_more, rotation_row_length, measurement_row_length, run_grown, run_rotations, run_measurements, start_wide}
 use Rattle.plan_spec.proofs.Replay.{seam_part, seam_entry}
 use Rattle.plan_spec.proofs.Padded.{Pads}
 use Rattle.plan_spec.proofs.Room.{steps_count}
@@ -34,7 +36,7 @@ use Rattle.component_plan.specs.Answer.{Answers}
 use Rattle.component_plan.specs.Demand.{plan_in}
 use Rattle.answer.specs.declared.ActiveComponentPlan.{ActiveComponentPlan}
 use Rattle.component_plan.proofs.Demand.{planned_pads}
-use Rattle.plan_rows.specs.Reading.{part_of, row_at, step_in, rotation_in, measurement_in}
+use Rattle.plan_rows.specs.Reading.{row_at, step_in, rotation_in, measurement_in}
 use Rattle.plan_rows.specs.RowLaws.{rotation_back, measurement_back}
 use Rattle.plan_spec.proofs.Words.{FloatsFit, instruction_floats}
 use Rattle.guarantees.specs.Back.{StepIs, rotation_of, measurement_of, GivenBack}
@@ -42,48 +44,44 @@ use Rattle.guarantees.proofs.KernelFloats.{rotation_exact, measurement_exact}
 
 -- ---- where words stand
 
--- a part or a row is there where its end is within the words
-part_there : (ws : List ℕ) (offset count : ℕ) → offset + count ≤ length ws → part_of ws offset count ≡ take count (drop offset ws)
-part_there ws offset count h = rw (le-leb _ _ h)
-
 row_there : (n : ℕ) (ws : List ℕ) (i : ℕ) → n * i + n ≤ length ws → row_at n ws i ≡ Some (take n (drop (n * i) ws))
 row_there n ws i h = rw (le-leb _ _ h)
 
 -- what was appended is a part
-part_back : (xs ys held : List ℕ) → Extends (xs ++ ys) held → part_of held (length xs) (length ys) ≡ ys
+part_back : (xs ys held : List ℕ) → Begins (xs ++ ys) held → part_of held (length xs) (length ys) ≡ ys
 part_back xs ys held e =
-    let l = extends_length (xs ++ ys) held e in
+    let l = begins_length (xs ++ ys) held e in
     let m = length-append xs ys in
     part_there held (length xs) (length ys) (omega arith) ∙ seam_part xs ys held e
 
 -- and a row, where it is of the row's length and behind i rows
-row_back : (n i : ℕ) (xs ys held : List ℕ) → length xs ≡ n * i → length ys ≡ n → Extends (xs ++ ys) held → row_at n held i ≡ Some ys
+row_back : (n i : ℕ) (xs ys held : List ℕ) → length xs ≡ n * i → length ys ≡ n → Begins (xs ++ ys) held → row_at n held i ≡ Some ys
 row_back n i xs ys held at size e =
-    let l = extends_length (xs ++ ys) held e in
+    let l = begins_length (xs ++ ys) held e in
     let m = length-append xs ys in
     let same : take n (drop (n * i) held) ≡ take (length ys) (drop (length xs) held) = rw (at, size) refl in
     row_there n held i (omega arith) ∙ ap Some (same ∙ seam_part xs ys held e)
 
-step_back : (i kind payload : ℕ) (b : Buffers) (written : List ℕ) → length written ≡ 2 * i → Extends (written ++ step_row kind payload) b.steps → StepIs b i kind payload
+step_back : (i kind payload : ℕ) (b : Buffers) (written : List ℕ) → length written ≡ 2 * i → Begins (written ++ step_row kind payload) b.steps → StepIs b i kind payload
 step_back i kind payload b written at e = ap (option_map step_in) (row_back 2 i written (step_row kind payload) b.steps at refl e)
 
 -- a row behind rows of n words
-rows_back : (n : ℕ) (rows all : List (List ℕ)) (row held : List ℕ) → AllOf n rows → length row ≡ n → Extends (rows ++ (row ∷ [])) all → Extends (concat all) held
+rows_back : (n : ℕ) (rows all : List (List ℕ)) (row held : List ℕ) → AllOf n rows → length row ≡ n → Begins (rows ++ (row ∷ [])) all → Begins (concat all) held
     → row_at n held (length rows) ≡ Some row
 rows_back n rows all row held wide size e f =
     row_back n (length rows) (concat rows) row held (length_concat n rows wide) size
-    (extends_trans (concat rows ++ row) (concat all) held
+    (begins_trans (concat rows ++ row) (concat all) held
     (concat e.0, ap concat e.1 ∙ concat-append (rows ++ (row ∷ [])) e.0 ∙ ap (λ (l : List ℕ). l ++ concat e.0) (concat_more rows row)) f)
 
 -- ---- what an accepted step wrote
 
 -- the buffers go on from what is written
 record Holds (o : Written) (b : Buffers) : Type 0 where
-  steps : Extends o.steps b.steps
-  merges : Extends o.merges b.merges
-  rotations : Extends (concat o.rotations) b.rotations
-  promotions : Extends o.promotions b.promotions
-  measurements : Extends (concat o.measurements) b.measurements
+  steps : Begins o.steps b.steps
+  merges : Begins o.merges b.merges
+  rotations : Begins (concat o.rotations) b.rotations
+  promotions : Begins o.promotions b.promotions
+  measurements : Begins (concat o.measurements) b.measurements
 
 module _ (u : Walk) (b : Buffers) (held : Holds u.written b) (i : ℕ) where
   -- what the finished walk has written
@@ -91,12 +89,12 @@ module _ (u : Walk) (b : Buffers) (held : Holds u.written b) (i : ℕ) where
   o = u.written
 
   -- the step of record i, and the part of the merge list that its join wrote
-  wrote_step : (kind payload : ℕ) (w : Walk) → length w.written.steps ≡ 2 * i → Extends (w.written.steps ++ step_row kind payload) o.steps → StepIs b i kind payload
-  wrote_step kind payload w at e = step_back i kind payload b w.written.steps at (extends_trans (w.written.steps ++ step_row kind payload) o.steps b.steps e held.steps)
+  wrote_step : (kind payload : ℕ) (w : Walk) → length w.written.steps ≡ 2 * i → Begins (w.written.steps ++ step_row kind payload) o.steps → StepIs b i kind payload
+  wrote_step kind payload w at e = step_back i kind payload b w.written.steps at (begins_trans (w.written.steps ++ step_row kind payload) o.steps b.steps e held.steps)
 
-  wrote_part : (w : Walk) (j : Join) → Extends (w.written.merges ++ j.sources) o.merges → part_of b.merges (length w.written.merges) (length j.sources) ≡ j.sources
+  wrote_part : (w : Walk) (j : Join) → Begins (w.written.merges ++ j.sources) o.merges → part_of b.merges (length w.written.merges) (length j.sources) ≡ j.sources
   wrote_part w j e =
-      part_back w.written.merges j.sources b.merges (extends_trans (w.written.merges ++ j.sources) o.merges b.merges e held.merges)
+      part_back w.written.merges j.sources b.merges (begins_trans (w.written.merges ++ j.sources) o.merges b.merges e held.merges)
 
   -- all that the step of record i wrote
   step_given_back : {limit : ℕ} {w v : Walk} {ins : Instruction} → Stepped limit w ins v → FloatsFit ins → length w.written.steps ≡ 2 * i
@@ -123,7 +121,7 @@ module _ (u : Walk) (b : Buffers) (held : Holds u.written b) (i : ℕ) where
   step_given_back {w = w} promoted floats at rows outcomes g =
       let number = length w.written.promotions in (
         wrote_step 3 number w at g.steps,
-        seam_entry w.written.promotions b.promotions (length w.components) 0 (extends_trans (w.written.promotions ++ (length w.components ∷ [])) o.promotions b.promotions g.promotions held.promotions),
+        seam_entry w.written.promotions b.promotions (length w.components) 0 (begins_trans (w.written.promotions ++ (length w.components ∷ [])) o.promotions b.promotions g.promotions held.promotions),
       )
   step_given_back {limit = limit} {w = w} (measured width x z phase pivot k wide active small fits below inside made) floats at rows outcomes g =
       let j = join_of x z w in

@@ -5,6 +5,7 @@ use native.Mathlib.Omega.{arith}
 use mathlib.Core.Path.{◌≡◌, sym, ap, ◌∙◌, subst, subst₂}
 use mathlib.Core.List.{List}
 use lib.ListN.{length, take}
+use Rattle.words.proofs.Padded.{zeroed_at}
 use Rattle.records.specs.Record.{instructions_of}
 use Rattle.records.specs.declared.Head.{Head}
 use Rattle.refusals.specs.declared.Refusal.{Refusal}
@@ -21,7 +22,6 @@ use Rattle.plan_spec.proofs.Groups.{groups_unique}
 use Rattle.plan_spec.proofs.States.{reached_whole}
 use Rattle.plan_spec.proofs.Room.{plan_fits}
 use Rattle.plan_spec.proofs.Connected.{read_head}
-use Rattle.plan_spec.proofs.Padded.{zeroed_at}
 use Rattle.plan_spec.proofs.Under.{same_plan, no_other}
 use Rattle.plan_buffers.specs.SixOutputs.{word_counts_of}
 use Rattle.plan_buffers.specs.SevenBuffers.{Buffers, lengths_of, Held}

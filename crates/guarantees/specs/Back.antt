@@ -1,6 +1,7 @@
 -- What the words of a plan give back for one record, by the state in which the definition's walk comes to it: the step, the row with the definition's kernel, and the
 -- row's part of the merge list. Written from 01, section 4.
 use Rattle.std.specs.Prelude.{ℕ, ◌<◌, ◌≡◌, [], length, get_or, Option, Some, ◌==◌}
+use Rattle.words.specs.Lists.{part_of}
 use Rattle.refusals.specs.Answer.{Answer, given}
 use Rattle.kernels.specs.Active.{rotation, measurement}
 use Rattle.kernels.specs.declared.active.PrecomputedActivePauliRotationKernel.{PrecomputedActivePauliRotationKernel}
@@ -13,7 +14,7 @@ use Rattle.plan_buffers.specs.SevenBuffers.{Buffers}
 use Rattle.plan_rows.specs.declared.RowHead.{RowHead}
 use Rattle.plan_rows.specs.declared.RotationRow.{RotationRow}
 use Rattle.plan_rows.specs.declared.MeasurementRow.{MeasurementRow}
-use Rattle.plan_rows.specs.Reading.{part_of, step_at, rotation_at, measurement_at}
+use Rattle.plan_rows.specs.Reading.{step_at, rotation_at, measurement_at}
 
 -- step i has this kind and payload
 abbrev pub StepIs : Buffers → ℕ → ℕ → ℕ → Type 0

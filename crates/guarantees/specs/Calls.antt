@@ -4,11 +4,11 @@
 use Rattle.std.specs.Prelude.{ℕ, ◌≡◌, ◌≤◌, ◌<◌, List, Option, Some, None, not, ◌==◌, if◌then◌else◌, map, get_or, length, take, replicate, Ok, Err}
 use Rattle.std.specs.Float.{binary64}
 use Rattle.std.specs.Float.Ieee.{of_bits}
+use Rattle.words.specs.Lists.{numbers_from}
 use Rattle.refusals.specs.Numbers.{number_of}
 use Rattle.refusals.specs.declared.Reason.{Reason}
 use Rattle.refusals.specs.declared.Refusal.{Refusal}
 use Rattle.records.specs.declared.Head.{Head}
-use Rattle.plan_spec.specs.Lists.{numbers_from}
 use Rattle.plan_spec.specs.WholeWorks.{WholeWorks, too_wide, without_quotient, with_quotient}
 use Rattle.plan_spec.specs.Plan.{Plan}
 use Rattle.plan_buffers.specs.declared.WordCounts.{WordCounts}

@@ -3,6 +3,8 @@
 use Rattle.std.specs.Prelude.{ℕ, ◌≡◌, ◌≤◌, ◌<◌, ◌+◌, ◌*◌, ◌/◌, ◌^◌, ◌⊎◌, List, Option, Some, None, length, get_or, take, false, true, pos}
 use Rattle.std.specs.Float.{fin}
 use Rattle.std.specs.List.{list_any}
+use Rattle.words.specs.Lists.{part_of}
+use Rattle.words.specs.Words.{Bytes}
 use Rattle.records.specs.Record.{kind, sine, cosine, record_at, instructions_of}
 use Rattle.records.specs.Sound.{UnitPair}
 use Rattle.records.specs.declared.Head.{Head}
@@ -19,8 +21,6 @@ use Rattle.plan_spec.specs.Laws.{Agree, TooWideExactly, NonNegative, Whole, Fits
 use Rattle.plan_buffers.specs.SevenBuffers.{Buffers, lengths_of}
 use Rattle.plan_buffers.specs.declared.WordCounts.{WordCounts}
 use Rattle.plan_buffers.specs.SixOutputs.{Outputs, word_counts_of}
-use Rattle.plan_rows.specs.Reading.{part_of}
-use Rattle.file_words.specs.Laws.{Bytes}
 use Rattle.stored_plan.specs.Stored.{Kept, kept_of, bytes_of, file_of}
 use Rattle.stored_plan.specs.Reading.{restored, trailer_word}
 use Rattle.stored_plan.specs.Loading.{Restored}

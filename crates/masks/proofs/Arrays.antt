@@ -7,7 +7,7 @@ use native.Mathlib.Numerals.{add-one}
 use native.Mathlib.Omega.{arith}
 use lib.ListN.{length, get_or, drop, set, replicate}
 use lib.Seq.{drop-cons, get_or-set_same, get_or-set_other}
-use Rattle.plan_spec.proofs.Counting.{same_or_not}
+use Rattle.words.proofs.Numbers.{same_or_not}
 
 -- the entries from a position on are the one there and those after it
 pub rest_at : (xs : List ℕ) (p : ℕ) → p < length xs → drop p xs ≡ get_or xs p 0 ∷ drop (p + 1) xs

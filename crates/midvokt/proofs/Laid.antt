@@ -8,7 +8,7 @@ use lib.ListN.{length, get_or, take, drop, replicate, length-append, length-drop
 use native.Mathlib.Nat.{min_comm}
 use Rattle.std.proofs.lemmas.List.{take_min}
 use lib.Seq.{take_at, length-take-le}
-use Rattle.plan_spec.specs.Lists.{numbers_from}
+use Rattle.words.specs.Lists.{numbers_from}
 use Rattle.refusals.specs.declared.Refusal.{Refusal}
 use Rattle.answer.specs.declared.ActiveComponentPlan.{ActiveComponentPlan}
 use Rattle.answer.specs.Outcome.{outcome_of}

@@ -1,11 +1,11 @@
 -- What the contract of `midvokt_plan` says: its answer, the words of `result`, and the seven buffers, for the definition.
 use Rattle.std.specs.Prelude.{ℕ, ◌≡◌, List, [], ◌∷◌, map, length, get_or, Result as Answered, Ok, Err}
+use Rattle.words.specs.Lists.{numbers_from}
+use Rattle.words.specs.Words.{flag_word, bits_word}
 use Rattle.refusals.specs.Numbers as Reasons
 use Rattle.refusals.specs.declared.Refusal.{Refusal}
 use Rattle.records.specs.declared.Head.{Head}
-use Rattle.plan_spec.specs.Lists.{numbers_from}
 use Rattle.plan_spec.specs.WholeWorks.{whole_words}
-use Rattle.plan_spec.specs.Walk.{flag_word, bits_word}
 use Rattle.plan_spec.specs.Plan.{plan_of}
 use Rattle.plan_buffers.specs.SevenBuffers.{Buffers, lengths_of, Held}
 use Rattle.answer.specs.Outcome.{Outcome, accepted, turned_away, outcome_in}

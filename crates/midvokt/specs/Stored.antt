@@ -1,7 +1,7 @@
 -- What the contracts of `midvokt_store` and `midvokt_load` say: what they return, the words of `result`, the buffers and the file, for 02's definition, CR 2.
 use Rattle.std.specs.Prelude.{ℕ, ◌≡◌, List, [], ◌∷◌, ◌++◌, length, replicate}
+use Rattle.words.specs.Lists.{padded}
 use Rattle.records.specs.declared.Head.{Head}
-use Rattle.plan_spec.specs.Plan.{padded}
 use Rattle.plan_buffers.specs.SevenBuffers.{Buffers, lengths_of, Held}
 use Rattle.stored_plan.specs.Reading.{read_file}
 use Rattle.stored_plan.specs.Loading as Loading

@@ -14,10 +14,10 @@ ghost use Rattle.midvokt.specs.Reply.{head_of, seven_buffers, Replies, number_in
 use answer::ActiveComponentPlan;
 use component_plan::build_active_component_plan;
 use plan_buffers::StoredOutputs;
-use plan_buffers::buffers::fill_from;
 use plan_file::scalar_words;
 use records::Head;
 use refusals::Refusal;
+use words::filling::fill_from;
 use work_sums::WholeWorks;
 
 // 0 for an answer, and else the refusal's number.

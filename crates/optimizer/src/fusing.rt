@@ -9,7 +9,7 @@ ghost use Rattle.optimizer.specs.Working.{partner_from, partner_of, is_zero, rew
 use pending::operation::{
     angle_of, commute, has_string, is_rotation, operation_at, pauli_of, whole_sign, word, y_count,
 };
-use records::float_bits;
+use words::floats::float_bits;
 
 // The kind of an operation that cancelled, until the segment is compacted.
 const MARKED: u64 = 3;

@@ -5,7 +5,8 @@ ghost use Rattle.pending.specs.Operation.{operations_of};
 ghost use Rattle.pending.specs.Form.{angle_fits, mask_fits, string_fits, condition_fits, conditions_fit, sign_fits, option_fits, all_zero, rotation_fits, measurement_fits, record_fits, operation_fits, form_fits};
 
 use crate::operation::operation_at;
-use records::{float_of, within};
+use records::within;
+use words::floats::float_of;
 
 // The largest number that the Rust's fields of 32 bits hold.
 const MOST_NUMBER: u64 = 0x7fff_ffff;

@@ -4,7 +4,7 @@ ghost use Rattle.std.specs.Float.{binary64};
 ghost use Rattle.std.specs.Float.Ieee.{of_bits};
 ghost use Rattle.pending.specs.Operation.{operation_at, word, is_rotation, is_measurement, has_string, is_expectation, x_of, z_of, commute, same_string, angle_of, y_count, coefficient, is_hermitian, whole_sign};
 
-use records::float_of;
+use words::floats::float_of;
 
 /// The Pauli string of an operation, by its masks.
 #[derive(Clone, Copy, Debug, PartialEq, Eq)]

@@ -1,29 +1,15 @@
--- A value given to every entry from a place on, one by one; zeros behind the first words; and what the library says of a sum, in 01's words.
+-- Zeros behind the first words, and what the library says of a sum of powers of two, in the definition's words.
 -- Assumes nothing.
-use mathlib.Core.Path.{◌≡◌, refl, ap, ◌∙◌}
-use mathlib.Core.List.{List, [], ◌∷◌, ◌++◌, map, append_assoc}
-use Prim.Native.Nat.{ℕ, ◌+◌, ◌-◌, ◌^◌, ◌≤◌, ◌<◌, min}
-use native.Mathlib.Numerals.{add-one}
+use mathlib.Core.Path.{◌≡◌, refl, ap}
+use mathlib.Core.List.{List, [], ◌∷◌, ◌++◌, map}
+use Prim.Native.Nat.{ℕ, ◌+◌, ◌-◌, ◌^◌, min}
 use native.Mathlib.Omega.{arith}
-use lib.ListN.{length, set, take, replicate, length-take, replicate-append-replicate}
-use lib.Seq.{take-suc-set}
+use lib.ListN.{length, take, replicate, length-take}
 use Rattle.std.specs.List.{sum_by}
 use Rattle.std.proofs.lemmas.List.Sums.{sum_by-cons}
+use Rattle.words.specs.Lists.{padded}
 use Rattle.plan_spec.specs.Lists.{total}
-use Rattle.plan_spec.specs.Plan.{padded}
 use Rattle.plan_spec.specs.Components.{allocated_for}
-
--- ---- one entry more has the value
-
-pub filled_more : {A : Type 0} (xs ys : List A) (value : A) (from i : ℕ) → from ≤ i → i < length ys → take i ys ≡ take from xs ++ replicate (i - from) value
-    → take (i + 1) (set ys i value) ≡ take from xs ++ replicate (i + 1 - from) value
-filled_more {A} xs ys value from i h l e =
-    let grown : i - from + 1 ≡ i + 1 - from = omega arith in
-    ap (λ (n : ℕ). take n (set ys i value)) (add-one i)
-    ∙ take-suc-set ys i value l
-    ∙ ap (λ (r : List A). r ++ (value ∷ [])) e
-    ∙ append_assoc (take from xs) (replicate (i - from) value) (value ∷ [])
-    ∙ ap (λ (r : List A). take from xs ++ r) (replicate-append-replicate (i - from) 1 value ∙ ap (λ (n : ℕ). replicate n value) grown)
 
 -- ---- zeros behind the first words
 

@@ -1,15 +1,7 @@
 -- What the contracts of the module `buffers` say of groups: the counts first, with room behind
 -- each, and then each coordinate at its place. 01, section 4, "Groups (added): final live
 -- components, each a member count and its members in order".
-use Rattle.std.specs.Prelude.{ℕ, zero, suc, ◌+◌, ◌<◌, ◌≤◌, List, [], ◌∷◌, ◌++◌, length, get_or, set, take, drop, replicate, if◌then◌else◌, ◌==◌}
-
--- every entry stands below n
-abbrev pub AllBelow : ℕ → List ℕ → Type 0
-AllBelow n xs = (i : ℕ) → i < length xs → get_or xs i 0 < n
-
--- the words with others in their place from `at` on
-abbrev pub patch : ℕ → List ℕ → List ℕ → List ℕ
-patch at ws xs = take at xs ++ (ws ++ drop (at + length ws) xs)
+use Rattle.std.specs.Prelude.{ℕ, zero, suc, ◌+◌, ◌<◌, ◌≤◌, List, [], ◌∷◌, length, get_or, set, replicate, if◌then◌else◌, ◌==◌}
 
 -- the groups' words, where each component's members begin, and how many words are taken
 pub record Counts : Type 0 where

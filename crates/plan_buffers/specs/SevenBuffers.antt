@@ -1,7 +1,8 @@
 -- The seven lent buffers, which are the six outputs of a `StoredOutputs` and the groups: their
 -- words, their lengths, and what they hold afterwards.
 use Rattle.std.specs.Prelude.{ℕ, ◌≡◌, List, [], length, take}
-use Rattle.plan_spec.specs.Plan.{Lengths, Result, planned, refused_at, padded}
+use Rattle.words.specs.Lists.{padded}
+use Rattle.plan_spec.specs.Plan.{Lengths, Result, planned, refused_at}
 use Rattle.plan_buffers.specs.declared.StoredOutputs.{StoredOutputs}
 use Rattle.plan_buffers.specs.declared.WordCounts.{WordCounts}
 

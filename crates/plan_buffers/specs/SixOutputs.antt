@@ -1,7 +1,7 @@
 -- The six lent outputs that a stored plan has too: the words behind a `StoredOutputs`, how many
 -- there are, and that one lends the same outputs as another.
 use Rattle.std.specs.Prelude.{ℕ, ◌≡◌, List, [], length, Bool, ◌||◌, nat_lt}
-use Rattle.plan_spec.specs.Plan.{padded}
+use Rattle.words.specs.Lists.{padded}
 use Rattle.plan_buffers.specs.declared.WordCounts.{WordCounts}
 use Rattle.plan_buffers.specs.declared.StoredOutputs.{StoredOutputs}
 

@@ -1,27 +1,8 @@
-//! The lent buffers other than rows: zeros behind the used words, the longest sizes and what they
-//! allocate, and the groups.
-ghost use Rattle.std.specs.Prelude.{◌≡◌, ◌++◌, ◌+◌, ◌-◌, ◌^◌, ◌≤◌, ◌<◌, max, min, length, get_or, set, take, drop, replicate};
+//! The lent buffers other than rows: the longest sizes and what they allocate, and the groups.
+ghost use Rattle.std.specs.Prelude.{◌≡◌, ◌+◌, ◌-◌, ◌≤◌, ◌<◌, max, length, get_or, set, take};
+ghost use Rattle.words.specs.Words.{AllBelow};
 ghost use Rattle.plan_spec.specs.Components.{allocated_for};
-ghost use Rattle.plan_buffers.specs.Buffers.{AllBelow, counts_of, CountsFit, placed_up_to, PlacesFit};
-
-/// Gives every entry from a place on one value.
-// Kept: a loop over the places and no `fill`, which asks that a clone cannot fail and is the
-// value; of a type parameter the check does not know that (tried).
-pub fn fill_from<T: Copy>(entries: &mut [T], from: usize, value: T)
-    ensures { entries.new ≡ take from entries.old ++ replicate (length entries.old - from) value }
-{
-    for i in from..entries.len() {
-        entries[i] = value;
-    }
-}
-
-/// Writes n ones.
-pub fn fill_ones(words: &mut [u64], n: usize)
-    requires { n ≤ length words.old }
-    ensures { words.new ≡ replicate n 1 ++ drop n words.old }
-{
-    words[..n].fill(1);
-}
+ghost use Rattle.plan_buffers.specs.Buffers.{counts_of, CountsFit, placed_up_to, PlacesFit};
 
 /// Raises a longest size to the size, where that is larger.
 pub fn raise_size(sizes: &mut [u64], component: usize, size: u64)

@@ -8,7 +8,7 @@ pub mod seven;
 ghost use Rattle.std.specs.Prelude.{◌≡◌};
 ghost use Rattle.plan_buffers.specs.SixOutputs.{outputs_of, word_counts_of, outputs_short, SameOutputs, Cleared};
 
-use crate::buffers::fill_from;
+use words::filling::fill_from;
 
 /// The six lent outputs that a stored plan has too. What lends by `&mut` is neither copied nor
 /// compared, so nothing more is derived.

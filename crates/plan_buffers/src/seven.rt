@@ -7,8 +7,8 @@ ghost use Rattle.plan_spec.specs.Plan.{buffers_refused};
 ghost use Rattle.plan_buffers.specs.SixOutputs.{SameOutputs};
 ghost use Rattle.plan_buffers.specs.SevenBuffers.{buffers_of, lengths_of, first_words, no_words, padded_buffers};
 
-use crate::buffers::fill_from;
 use crate::{MEASUREMENT_WORDS, ROTATION_WORDS, StoredOutputs, WordCounts};
+use words::filling::fill_from;
 
 /// Whether one of the buffers is too short for n records.
 pub fn buffers_short(n: usize, out: &StoredOutputs, groups: &[u64]) -> bool

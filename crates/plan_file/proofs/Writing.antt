@@ -6,11 +6,11 @@ use Prim.Native.Nat.{ℕ, ◌+◌, ◌-◌, ◌*◌, ◌≤◌}
 use native.Mathlib.Nat.{zero-add}
 use native.Mathlib.Omega.{arith}
 use lib.ListN.{length, take, replicate, length-append}
+use Rattle.words.specs.Lists.{padded, patch}
+use Rattle.words.specs.File.{word_bytes}
+use Rattle.words.proofs.Bytes.{length_bytes, bytes_append}
+use Rattle.words.proofs.Patches.{length_patch, front_patch}
 use Rattle.plan_spec.specs.Lists.{concat}
-use Rattle.plan_spec.specs.Plan.{padded}
-use Rattle.plan_buffers.specs.Buffers.{patch}
-use Rattle.file_words.specs.Words.{word_bytes}
-use Rattle.file_words.proofs.Bytes.{length_bytes, bytes_append, length_patch, front_patch}
 use Rattle.stored_plan.specs.Stored.{Kept, sections_of, trailer_of, words_of, bytes_of}
 use Rattle.stored_plan.specs.Reading.{counts_of}
 use Rattle.stored_plan.proofs.Plans.{sections_length}

@@ -2,7 +2,7 @@
 -- trailer by its counts alone. The form itself is `Stored` of the crate `stored_plan`, and the
 -- proofs show these to be its words.
 use Rattle.std.specs.Prelude.{ℕ, ◌+◌, ◌*◌, List, [], ◌∷◌}
-use Rattle.plan_spec.specs.Walk.{flag_word, bits_word}
+use Rattle.words.specs.Words.{flag_word, bits_word}
 use Rattle.plan_buffers.specs.declared.WordCounts.{WordCounts}
 use Rattle.plan_buffers.specs.SixOutputs.{Outputs}
 use Rattle.stored_plan.specs.Stored.{Kept}

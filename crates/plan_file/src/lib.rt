@@ -3,16 +3,16 @@
 #![tactic(auto)]
 
 ghost use Rattle.std.specs.Prelude.{◌≡◌, ◌+◌, ◌*◌, ◌≤◌, ◌<◌, ◌^◌, length};
-ghost use Rattle.plan_spec.specs.Plan.{padded};
+ghost use Rattle.words.specs.Lists.{padded};
 ghost use Rattle.stored_plan.specs.Stored.{bytes_of};
 ghost use Rattle.plan_buffers.specs.SixOutputs.{word_counts_of};
 ghost use Rattle.plan_file.specs.Writing.{words_in, kept_in, scalars_in, words_for, trailer_for};
 
 use answer::ActiveComponentPlan;
-use file_words::put_words;
 use plan_buffers::WordCounts;
-use plan_buffers::buffers::fill_from;
-use records::float_bits;
+use words::file::put_words;
+use words::filling::fill_from;
+use words::floats::float_bits;
 
 /// The words that a file keeps of each of the first six outputs.
 // Kept: no one generic struct with `StoredOutputs` and `WordCounts`, which have the same six

@@ -1,11 +1,10 @@
 -- The words behind a row's head: they are written over the part behind it, and what stands behind them is as it was.
-use Rattle.std.proofs.Common.{◌≡◌, Bool, true, false, ℕ, List, ◌++◌, ◌+◌, length, drop, refl, sym, append_assoc}
+use Rattle.std.proofs.Common.{◌≡◌, ℕ, List, ◌++◌, ◌+◌, length, drop, refl, sym, append_assoc}
 use Rattle.std.proofs.lemmas.List.{take_at, drop_at}
 use lib.Seq.{drop-drop}
 use borrow.Rule.Slice.PartMut.{put_mid}
 use Rattle.kernels.specs.declared.active.ActivePauliAction.{ActivePauliAction}
-use mir.Val.{bool_byte}
-use Rattle.plan_spec.specs.Walk.{flag_word, row_head}
+use Rattle.plan_spec.specs.Walk.{row_head}
 
 pub behind : (head rest part written before : List ℕ) (n k : ℕ) → length head ≡ n → part ≡ head ++ drop n before → written ≡ rest
     → put_mid n k part written ≡ (head ++ rest) ++ drop (n + k) before
@@ -15,8 +14,3 @@ behind head rest part written before n k long front same =
 pub head_length : (component offset count : ℕ) (a : ActivePauliAction) → length (row_head component offset count a) ≡ 11
 unfolding row_head
 head_length component offset count a = refl
-
--- a flag as the number that `u64::from` gives
-pub flag_is : (b : Bool) → bool_byte b ≡ flag_word b
-flag_is true = refl
-flag_is false = refl

@@ -1,8 +1,10 @@
 -- What is read of a plan's words: a part of the merge list, and steps and rows by their number.
-use Rattle.std.specs.Prelude.{ℕ, ◌+◌, ◌*◌, List, [], map, Option, Some, None, Bool, not, length, take, drop, if◌then◌else◌, nat_le, ◌==◌, Float}
+use Rattle.std.specs.Prelude.{ℕ, ◌+◌, ◌*◌, List, [], map, Option, Some, None, length, take, drop, if◌then◌else◌, nat_le, Float}
 use Rattle.std.specs.Option.{option_map, unwrap_or}
 use Rattle.std.specs.Float.{binary64}
 use Rattle.std.specs.Float.Ieee.{of_bits}
+use Rattle.words.specs.Lists.{numbers_from}
+use Rattle.words.specs.Words.{flag_in}
 use Rattle.kernels.specs.Active.{complex}
 use Rattle.kernels.specs.declared.active.Complex64.{Complex64}
 use Rattle.kernels.specs.declared.active.ActivePauliAction.{ActivePauliAction}
@@ -11,26 +13,16 @@ use Rattle.kernels.specs.declared.active.PrecomputedActivePauliMeasurementKernel
 use Rattle.plan_spec.specs.Rows.{step_words, measurement_words, rotation_words, step_kind, step_payload, row_component, row_merge_offset, row_merge_count, row_width, row_x, row_z, row_even_re, row_even_im, row_odd_re, row_odd_im, row_overlap}
 use Rattle.plan_spec.specs.Rows.{rotation_diagonal, rotation_uniform, rotation_flip, rotation_pair_bit, rotation_pair_count, rotation_angle, rotation_cosine, rotation_sine, rotation_coefficient_re, rotation_coefficient_im}
 use Rattle.plan_spec.specs.Rows.{measurement_pivot, measurement_diagonal, measurement_phase_bit, measurement_without_pivot, measurement_out_dimension, measurement_coefficient_re, measurement_coefficient_im, measurement_deactivated}
-use Rattle.plan_spec.specs.Lists.{numbers_from}
 use Rattle.plan_rows.specs.declared.RowHead.{RowHead}
 use Rattle.plan_rows.specs.declared.RotationRow.{RotationRow}
 use Rattle.plan_rows.specs.declared.MeasurementRow.{MeasurementRow}
 use Rattle.plan_rows.specs.declared.Step.{Step}
-
--- the part from merge offset on, of merge count words; where it runs past the end, an empty part
-abbrev pub part_of : List ℕ → ℕ → ℕ → List ℕ
-part_of ws offset count =
-    if nat_le (offset + count) (length ws) then take count (drop offset ws) else []
 
 -- the n words of the row with this number, where the whole row is there
 abbrev pub row_at : ℕ → List ℕ → ℕ → Option (List ℕ)
 row_at n ws i = if nat_le (n * i + n) (length ws) then Some (take n (drop (n * i) ws)) else None
 
 -- ---- values of words
-
--- a flag above 1 counts as set
-abbrev pub flag_in : ℕ → Bool
-flag_in w = not (w == 0)
 
 -- a float stands as its bits, and a NaN pattern is the one NaN
 abbrev pub float_in : ℕ → Float

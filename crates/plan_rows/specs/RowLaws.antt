@@ -3,19 +3,20 @@
 -- word the reader takes what the writer put, a flag's word is set where the flag is, and the bits of
 -- a float that binary64 holds are read as that float.
 use mathlib.Core.Path.{◌≡◌, refl}
-use mathlib.Core.Bool.{Bool, true, false}
 use mathlib.Core.List.{List, ◌++◌}
 use Prim.Native.Nat.{ℕ}
 use lib.ListN.{length, drop}
 use lib.Ieee.{Float, binary64}
 use lib.Ieee.Bits.{of_bits-to_bits}
+use Rattle.words.specs.Words.{bits_word}
+use Rattle.words.proofs.Words.{flag_back}
 use Rattle.kernels.specs.declared.active.Complex64.{Complex64}
 use Rattle.kernels.specs.declared.active.ActivePauliAction.{ActivePauliAction}
 use Rattle.plan_spec.specs.Rows.{step_words, rotation_words, measurement_words}
-use Rattle.plan_spec.specs.Walk.{flag_word, bits_word, row_head, rotation_row, measurement_row}
+use Rattle.plan_spec.specs.Walk.{row_head, rotation_row, measurement_row}
 use Rattle.plan_spec.proofs.Growth.{rotation_row_length, measurement_row_length}
 use Rattle.plan_rows.specs.Writing.{step_written, head_written, rotation_written, measurement_written}
-use Rattle.plan_rows.specs.Reading.{flag_in, float_in, complex_in, action_in, step_in, rotation_in, measurement_in}
+use Rattle.plan_rows.specs.Reading.{float_in, complex_in, action_in, step_in, rotation_in, measurement_in}
 use Rattle.plan_rows.specs.Exact.{IsExact, ComplexIsExact, ActionIsExact, StepRowIsExact, RotationRowIsExact, MeasurementRowIsExact}
 use Rattle.plan_rows.specs.declared.RowHead.{RowHead}
 use Rattle.plan_rows.specs.declared.Step.{Step}
@@ -38,10 +39,6 @@ measurement_counted row =
     row.head.component row.head.merge_offset row.head.merge_count row.kernel row.deactivated
 
 -- ---- what is read of them
-
-flag_back : (b : Bool) → flag_in (flag_word b) ≡ b
-flag_back true = refl
-flag_back false = refl
 
 float_back : {v : Float} → IsExact v → float_in (bits_word v) ≡ v
 float_back {v} h = of_bits-to_bits binary64 v h

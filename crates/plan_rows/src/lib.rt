@@ -4,8 +4,8 @@
 #![tactic(auto)]
 
 ghost use Rattle.std.specs.Prelude.{◌≡◌, ℕ, List, ◌++◌, ◌+◌, ◌*◌, ◌≤◌, length, get_or, drop};
+ghost use Rattle.words.specs.Lists.{patch};
 ghost use Rattle.plan_spec.specs.Rows.{action_words, step_words, measurement_words, rotation_words};
-ghost use Rattle.plan_buffers.specs.Buffers.{patch};
 ghost use Rattle.plan_rows.specs.Steps.{kind_number};
 ghost use Rattle.plan_rows.specs.Writing.{head_written, step_written, rotation_written, measurement_written};
 ghost use Rattle.plan_rows.specs.Reading.{complex_in, head_in, action_in, step_in, rotation_in, measurement_in};
@@ -17,7 +17,7 @@ use kernels::active::{
     PrecomputedActivePauliRotationKernel,
 };
 use plan_buffers::{MEASUREMENT_WORDS, ROTATION_WORDS};
-use records::{float_bits, float_of};
+use words::floats::{float_bits, float_of};
 
 pub mod reading;
 

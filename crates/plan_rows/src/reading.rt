@@ -2,8 +2,9 @@
 //! and rotation rows as a slice of structs.
 
 ghost use Rattle.std.specs.Prelude.{◌≡◌, length};
+ghost use Rattle.words.specs.Lists.{part_of};
 ghost use Rattle.plan_rows.specs.Exact.{StepsComeBack, RotationsComeBack, MeasurementsComeBack};
-ghost use Rattle.plan_rows.specs.Reading.{part_of, row_read, step_at, rotation_at, measurement_at, rotation_or_zero, filled_rows};
+ghost use Rattle.plan_rows.specs.Reading.{row_read, step_at, rotation_at, measurement_at, rotation_or_zero, filled_rows};
 
 use crate::{MeasurementRow, RotationRow, Row, Step};
 

@@ -8,11 +8,12 @@ use Prim.Native.Nat.{ℕ, suc, ◌≤◌, ◌<◌}
 use native.Mathlib.Omega.{arith}
 use lib.Dec.{eqb, ltb}
 use borrow.Author.Tests.{eq-eqb, ne_eqb, ltb-true, ltb-false}
+use Rattle.words.proofs.Numbers.{same_or_not}
 use Rattle.plan_spec.specs.Lists.{without, meet}
 use Rattle.plan_spec.specs.Components.{size_of, meeting, larger, largest}
 use Rattle.plan_spec.specs.Connectivity.{Member}
 use Rattle.plan_spec.specs.Sources.{Ascending, none, more}
-use Rattle.plan_spec.proofs.Counting.{same_or_not, member_head, member_tail, member_cons}
+use Rattle.plan_spec.proofs.Counting.{member_head, member_tail, member_cons}
 use Rattle.plan_spec.proofs.Steps.{cond_yes, cond_no}
 use Rattle.plan_spec.proofs.Joins.{meeting_meets, larger_either, without_same, without_other}
 

@@ -3,7 +3,7 @@ use mathlib.Core.Path.{◌≡◌, refl}
 use mathlib.Core.List.{List, [], ◌∷◌, map}
 use Prim.Native.Nat.{ℕ}
 use lib.ListN.{get_or}
-use Rattle.plan_spec.specs.Lists.{numbers_from}
+use Rattle.words.specs.Lists.{numbers_from}
 use Rattle.plan_spec.specs.Components.{members_of}
 use Rattle.plan_spec.specs.Circuits.{answer_of, later_first}
 use Rattle.plan_spec.specs.Groups.{group_members, live_below}

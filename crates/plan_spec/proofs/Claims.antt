@@ -8,17 +8,19 @@ use native.Mathlib.Omega.{arith}
 use lib.ListN.{length, get_or, length-append}
 use native.Mathlib.Nat.{le_trans, le_refl}
 use lib.Pow.{pow_mono}
+use Rattle.words.specs.Lists.{numbers_from}
+use Rattle.words.proofs.Numbers.{length-numbers}
 use Rattle.kernels.specs.Bits.{bit_at}
 use Rattle.kernels.specs.declared.active.ActivePauliAction.{ActivePauliAction}
 use Rattle.records.specs.declared.Instruction.{Instruction}
 use Rattle.records.specs.declared.Instruction.TheVariants.{Rotation, Promotion, RecordMeasurement, RecordDetector, Measurement, Expectation, DormantBranch}
-use Rattle.plan_spec.specs.Lists.{place_of, numbers_from, total, concat}
+use Rattle.plan_spec.specs.Lists.{place_of, total, concat}
 use Rattle.plan_spec.specs.Rows.{row_component, row_width, row_x, row_z, measurement_pivot}
 use Rattle.plan_spec.specs.Components.{support, local_mask, live_dimension, amplitudes}
 use Rattle.plan_spec.specs.Walk.{Walk, join_of, local_action, start, no_step, ignored_step, promotion_step, rotation_step, measurement_step, row_head, rotation_row, measurement_row}
 use Rattle.plan_spec.specs.Plan.{Plan, plan_from}
 use Rattle.plan_spec.specs.Connectivity.{Member, ActiveOrder, active_start, active_step, active_after, with_links, advanced, support_of, rotation_at, measurement_at, replay_joined, replay_after, longest_of, LocalBits, JoinHolds, JoinClaim, promotions_in, measurements_in}
-use Rattle.plan_spec.proofs.Counting.{place_below, place_holds, member_at, length_remove_at, length-numbers}
+use Rattle.plan_spec.proofs.Counting.{place_below, place_holds, member_at, length_remove_at}
 use Rattle.plan_spec.proofs.Steps.{Stepped, ignored, rotated, promoted, measured, recorded, detected, expected, branched, Run, done, more}
 use Rattle.plan_spec.proofs.Joins.{gathered_from, gathered_holds}
 use Rattle.plan_spec.proofs.LocalBits.{local_bit, local_clear, support_same, support_member}

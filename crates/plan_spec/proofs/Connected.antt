@@ -9,11 +9,12 @@ use native.Mathlib.Omega.{arith}
 use lib.ListN.{length, get_or, take, drop, length-take, get_or-eq_default}
 use lib.Seq.{drop-cons}
 use borrow.Author.Tests.{eq-eqb, le-ltb}
+use Rattle.words.specs.Lists.{numbers_from}
 use Rattle.records.specs.Record.{instructions_of}
 use Rattle.records.specs.declared.Head.{Head}
 use Rattle.records.specs.declared.Instruction.{Instruction}
 use Rattle.records.specs.declared.Instruction.TheVariants.{DormantBranch}
-use Rattle.plan_spec.specs.Lists.{numbers_from, total, concat}
+use Rattle.plan_spec.specs.Lists.{total, concat}
 use Rattle.plan_spec.specs.Components.{allocated_for}
 use Rattle.plan_spec.specs.Walk.{Walk, start}
 use Rattle.plan_spec.specs.Plan.{Lengths, Plan, planned, unread, plan_from, plan_of}

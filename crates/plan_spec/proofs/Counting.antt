@@ -8,18 +8,13 @@ use Prim.Native.Nat.{ℕ, zero, suc, ◌+◌, ◌≤◌, ◌<◌}
 use native.Mathlib.Omega.{arith}
 use lib.Dec.{eqb}
 use lib.ListN.{length, get_or, set}
-use borrow.Author.Tests.{eq-eqb, ne_eqb, eqb-true, eqb-false}
-use Rattle.plan_spec.specs.Lists.{is_in, place_of, remove_at, numbers_from, concat}
+use borrow.Author.Tests.{eq-eqb, ne_eqb}
+use Rattle.words.specs.Lists.{numbers_from}
+use Rattle.words.proofs.Numbers.{same_or_not}
+use Rattle.plan_spec.specs.Lists.{is_in, place_of, remove_at, concat}
 use Rattle.plan_spec.specs.Connectivity.{occurrences, Member, NoRepeats}
 
 -- ---- telling numbers apart
-
-pub same_or_not : (a b : ℕ) → (a ≡ b) ⊎ (a ≡ b → ⊥)
-same_or_not a b = go (eqb a b) refl
-  where
-    go : (t : Bool) → eqb a b ≡ t → (a ≡ b) ⊎ (a ≡ b → ⊥)
-    go true e = inl (eqb-true a b e)
-    go false e = inr (eqb-false a b e)
 
 pub member_or_not : (a : ℕ) (xs : List ℕ) → Member a xs ⊎ (occurrences a xs ≡ 0)
 member_or_not a xs = go (occurrences a xs) refl
@@ -182,15 +177,6 @@ numbers_once b (suc n) a =
     (λ e. let f = one_here a b (numbers_from (suc b) n) e in let g = absent_below a (suc b) n (omega arith) in omega arith)
     (λ ne. let f = none_here a b (numbers_from (suc b) n) ne in let g = numbers_once (suc b) n a in omega arith)
     (same_or_not a b)
-
-pub length-numbers : (b n : ℕ) → length (numbers_from b n) ≡ n
-length-numbers b zero = refl
-length-numbers b (suc n) = ap suc (length-numbers (suc b) n)
-
-pub numbers_at : (b n i d : ℕ) → i < n → get_or (numbers_from b n) i d ≡ b + i
-numbers_at b zero i d h = absurd (omega arith)
-numbers_at b (suc n) zero d h = omega arith
-numbers_at b (suc n) (suc i) d h = let r = numbers_at (suc b) n i d (omega arith) in omega arith
 
 pub numbers_bounds : (a b n : ℕ) → Member a (numbers_from b n) → (b ≤ a) × (a < b + n)
 numbers_bounds a b zero h = absurd (omega arith)

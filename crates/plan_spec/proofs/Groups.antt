@@ -7,6 +7,8 @@ use Prim.Native.Nat.{ℕ, zero, suc, ◌+◌, ◌-◌, ◌≤◌}
 use native.Mathlib.Omega.{arith}
 use lib.ListN.{length, get_or, take, drop, replicate}
 use lib.Seq.{get_or-drop, drop-drop, take-append_seam, drop-append_seam}
+use Rattle.words.proofs.Numbers.{same_or_not}
+use Rattle.words.proofs.Padded.{zeros_at}
 use Rattle.records.specs.Record.{instructions_of}
 use Rattle.records.specs.declared.Head.{Head}
 use Rattle.records.specs.declared.Instruction.{Instruction}
@@ -17,7 +19,7 @@ use Rattle.plan_spec.specs.Plan.{Lengths, Plan, planned, groups_of, plan_from, p
 use Rattle.plan_spec.specs.Connectivity.{Member, Replayed, active_start, replay_after}
 use Rattle.plan_spec.specs.Sources.{Ascending, none, more}
 use Rattle.plan_spec.specs.Groups.{Live, group_of, group_start, group_count, group_members, live_count, live_below, GroupsListed}
-use Rattle.plan_spec.proofs.Counting.{same_or_not, member_head, member_tail, member_cons}
+use Rattle.plan_spec.proofs.Counting.{member_head, member_tail, member_cons}
 use Rattle.plan_spec.proofs.Ascending.{ascending_same}
 use Rattle.plan_spec.proofs.Steps.{Run}
 use Rattle.plan_spec.proofs.Growth.{grown_refl}
@@ -25,7 +27,7 @@ use Rattle.plan_spec.proofs.Tracking.{start_tracked}
 use Rattle.plan_spec.proofs.Replay.{run_replay, start_replay}
 use Rattle.plan_spec.proofs.Accepted.{Accepted, accepted}
 use Rattle.plan_spec.proofs.Connected.{rotations_wide, measurements_wide, start_steps, read_head}
-use Rattle.plan_spec.proofs.Padded.{zeros_at, Pads, accepted_names, after_same}
+use Rattle.plan_spec.proofs.Padded.{Pads, accepted_names, after_same}
 
 -- ---- the numbers of the components that have members
 

@@ -12,6 +12,8 @@ use lib.Dec.{eqb, ltb}
 use lib.ListN.{length, get_or, take, drop, length-append}
 use lib.Seq.{take_at, drop_at, drop-drop}
 use lib.Ieee.{Float}
+use Rattle.words.specs.Lists.{Begins}
+use Rattle.words.proofs.Patches.{begins_refl, begins_trans}
 use Rattle.kernels.specs.Bits.{bit_at, dimension}
 use Rattle.refusals.specs.Answer.{Answer, given, refused}
 use Rattle.kernels.specs.Active.{of_dimension, rotation, measurement, imaginary}
@@ -32,49 +34,33 @@ use Rattle.plan_spec.proofs.Steps.{Stepped, ignored, rotated, promoted, measured
 
 -- ---- lists that go on
 
--- ys is xs with a tail
-abbrev pub Extends : {A : Type 0} → List A → List A → Type 0
-Extends xs ys = (t : List _) × (ys ≡ xs ++ t)
-
--- a list goes on as itself
-pub extends_refl : {A : Type 0} (xs : List A) → Extends xs xs
-extends_refl xs = ([], sym (append-nil xs))
-
--- and what goes on from that goes on from the first
-pub extends_trans : {A : Type 0} (xs ys zs : List A) → Extends xs ys → Extends ys zs → Extends xs zs
-extends_trans xs ys zs e f = (e.0 ++ f.0, f.1 ∙ ap (λ (l : List _). l ++ f.0) e.1 ∙ append_assoc xs e.0 f.0)
-
 -- every output is the earlier one with a tail
 pub record Grown (o u : Written) : Type 0 where
-  pub steps : Extends o.steps u.steps
-  pub merges : Extends o.merges u.merges
-  pub rotations : Extends o.rotations u.rotations
-  pub promotions : Extends o.promotions u.promotions
-  pub measurements : Extends o.measurements u.measurements
+  pub steps : Begins o.steps u.steps
+  pub merges : Begins o.merges u.merges
+  pub rotations : Begins o.rotations u.rotations
+  pub promotions : Begins o.promotions u.promotions
+  pub measurements : Begins o.measurements u.measurements
 
 -- nothing appended
 pub grown_refl : (o : Written) → Grown o o
 grown_refl o = record {
-  steps = extends_refl o.steps;
-  merges = extends_refl o.merges;
-  rotations = extends_refl o.rotations;
-  promotions = extends_refl o.promotions;
-  measurements = extends_refl o.measurements;
+  steps = begins_refl o.steps;
+  merges = begins_refl o.merges;
+  rotations = begins_refl o.rotations;
+  promotions = begins_refl o.promotions;
+  measurements = begins_refl o.measurements;
 }
 
 -- appended twice
 pub grown_trans : {o u t : Written} → Grown o u → Grown u t → Grown o t
 grown_trans {o} {u} {t} g h = record {
-  steps = extends_trans o.steps u.steps t.steps g.steps h.steps;
-  merges = extends_trans o.merges u.merges t.merges g.merges h.merges;
-  rotations = extends_trans o.rotations u.rotations t.rotations g.rotations h.rotations;
-  promotions = extends_trans o.promotions u.promotions t.promotions g.promotions h.promotions;
-  measurements = extends_trans o.measurements u.measurements t.measurements g.measurements h.measurements;
+  steps = begins_trans o.steps u.steps t.steps g.steps h.steps;
+  merges = begins_trans o.merges u.merges t.merges g.merges h.merges;
+  rotations = begins_trans o.rotations u.rotations t.rotations g.rotations h.rotations;
+  promotions = begins_trans o.promotions u.promotions t.promotions g.promotions h.promotions;
+  measurements = begins_trans o.measurements u.measurements t.measurements g.measurements h.measurements;
 }
-
--- a list that goes on is no shorter
-pub extends_length : {A : Type 0} (xs ys : List A) → Extends xs ys → length xs ≤ length ys
-extends_length xs ys e = let l = ap length e.1 ∙ length-append xs e.0 in omega arith
 
 -- ---- rows
 
@@ -181,10 +167,10 @@ appended_none : (kind payload : ℕ) (o : Written) → Appended 1 o (with_step k
 appended_none kind payload o = record {
   grown = record {
     steps = (step_row kind payload, refl);
-    merges = extends_refl o.merges;
-    rotations = extends_refl o.rotations;
-    promotions = extends_refl o.promotions;
-    measurements = extends_refl o.measurements;
+    merges = begins_refl o.merges;
+    rotations = begins_refl o.rotations;
+    promotions = begins_refl o.promotions;
+    measurements = begins_refl o.measurements;
   };
   steps_more = length-append o.steps (step_row kind payload);
   rows_more = omega arith;
@@ -206,8 +192,8 @@ step_appended {w = w} (rotated width x z phase angle sine cosine k e a b c d) =
         steps = (2 ∷ length o.rotations ∷ [], refl);
         merges = (j.sources, refl);
         rotations = (row ∷ [], refl);
-        promotions = extends_refl o.promotions;
-        measurements = extends_refl o.measurements;
+        promotions = begins_refl o.promotions;
+        measurements = begins_refl o.measurements;
       };
       steps_more = length-append o.steps (2 ∷ length o.rotations ∷ []);
       rows_more = let l = length-append o.rotations (row ∷ []) in omega arith;
@@ -224,10 +210,10 @@ step_appended {w = w} promoted =
     let next = length w.components in record {
       grown = record {
         steps = (3 ∷ length o.promotions ∷ [], refl);
-        merges = extends_refl o.merges;
-        rotations = extends_refl o.rotations;
+        merges = begins_refl o.merges;
+        rotations = begins_refl o.rotations;
         promotions = (next ∷ [], refl);
-        measurements = extends_refl o.measurements;
+        measurements = begins_refl o.measurements;
       };
       steps_more = length-append o.steps (3 ∷ length o.promotions ∷ []);
       rows_more = let l = length-append o.promotions (next ∷ []) in omega arith;
@@ -243,8 +229,8 @@ step_appended {w = w} (measured width x z phase pivot k e a b c d f g) =
       grown = record {
         steps = (4 ∷ length o.measurements ∷ [], refl);
         merges = (j.sources, refl);
-        rotations = extends_refl o.rotations;
-        promotions = extends_refl o.promotions;
+        rotations = begins_refl o.rotations;
+        promotions = begins_refl o.promotions;
         measurements = (row ∷ [], refl);
       };
       steps_more = length-append o.steps (4 ∷ length o.measurements ∷ []);

@@ -11,10 +11,12 @@ use lib.Dec.{eqb}
 use lib.ListN.{length, get_or, take, set, length-set, length-append, length-map, get_or-eq_default}
 use lib.Seq.{get_or-set_same, get_or-set_other, get_or-append_seam}
 use borrow.Author.Tests.{eq-eqb, ne_eqb}
-use Rattle.plan_spec.specs.Lists.{remove_at, numbers_from, concat}
+use Rattle.words.specs.Lists.{numbers_from}
+use Rattle.words.proofs.Numbers.{same_or_not, length-numbers}
+use Rattle.plan_spec.specs.Lists.{remove_at, concat}
 use Rattle.plan_spec.specs.Components.{reached, support, or_first, meeting, touched, sources_of, joined}
 use Rattle.plan_spec.specs.Connectivity.{occurrences, Member, NoRepeats, Rearranged, ActiveOrder, active_start, support_of, merged, class_of, replay_join, joined_members}
-use Rattle.plan_spec.proofs.Counting.{same_or_not, member_or_not, one_here, none_here, member_head, member_cons, occurrences_append, occurrences_concat_append, occurrences_set, occurrences_listed, member_listed, member_at, occurrences_remove_at, numbers_once, numbers_bounds, length-numbers}
+use Rattle.plan_spec.proofs.Counting.{member_or_not, one_here, none_here, member_head, member_cons, occurrences_append, occurrences_concat_append, occurrences_set, occurrences_listed, member_listed, member_at, occurrences_remove_at, numbers_once, numbers_bounds}
 use Rattle.plan_spec.proofs.Joins.{meet_shares, shares_meet, meeting_meets, meets_meeting, meeting_once, sources_same, length_joined, joined_is, joined_count, gathered_joined, join_cases, join_target, gathered_from, gathered_holds}
 use Rattle.plan_spec.proofs.LocalBits.{support_same, support_member}
 use Rattle.plan_spec.proofs.Live as Live

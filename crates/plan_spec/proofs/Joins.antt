@@ -10,10 +10,11 @@ use lib.Dec.{eqb, ltb}
 use lib.ListN.{length, get_or, set, length-set}
 use lib.Seq.{get_or-set_same, get_or-set_other}
 use borrow.Author.Tests.{eq-eqb, ne_eqb}
+use Rattle.words.proofs.Numbers.{same_or_not}
 use Rattle.plan_spec.specs.Lists.{is_in, meet, without, concat}
 use Rattle.plan_spec.specs.Components.{size_of, meeting, larger, largest, sources_of, gathered, emptied, joined}
 use Rattle.plan_spec.specs.Connectivity.{occurrences, Member, NoRepeats, Rearranged, replay_join, joined_members}
-use Rattle.plan_spec.proofs.Counting.{same_or_not, member_or_not, one_here, none_here, member_head, member_tail, member_cons, member_is_in, absent_is_in, or-true, occurrences_append, occurrences_set}
+use Rattle.plan_spec.proofs.Counting.{member_or_not, one_here, none_here, member_head, member_tail, member_cons, member_is_in, absent_is_in, or-true, occurrences_append, occurrences_set}
 use Rattle.plan_spec.proofs.Steps.{cond_yes, cond_no}
 
 -- ---- which components are touched

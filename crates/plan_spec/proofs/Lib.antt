@@ -2,7 +2,6 @@ pub mod ByNumber
 pub mod Circuits
 pub mod Ceilings
 pub mod Counting
-pub mod Filled
 pub mod Steps
 pub mod Joins
 pub mod Ascending

@@ -6,6 +6,10 @@ use mathlib.Core.List.{List, [], ◌∷◌, ◌++◌}
 use Prim.Native.Nat.{ℕ, suc, ◌+◌, ◌*◌, ◌/◌, ◌≤◌, ◌<◌}
 use native.Mathlib.Omega.{arith}
 use lib.ListN.{length, get_or, take, drop, length-append}
+use Rattle.words.specs.Lists.{Begins}
+use Rattle.words.proofs.Numbers.{same_or_not}
+use Rattle.words.proofs.Patches.{begins_length}
+use Rattle.words.proofs.Padded.{zeroed_length}
 use Rattle.records.specs.Record.{instructions_of}
 use Rattle.records.specs.declared.Head.{Head}
 use Rattle.records.specs.declared.Instruction.{Instruction}
@@ -16,15 +20,14 @@ use Rattle.plan_spec.specs.Walk.{Written, Walk, join_of, start, no_step, ignored
 use Rattle.plan_spec.specs.Plan.{Lengths, Plan, planned, plan_from, plan_of}
 use Rattle.plan_spec.specs.Connectivity.{ActiveOrder, active_start, active_after, Replayed, kind_at, rotation_at, measurement_at, listed_by, replay_after}
 use Rattle.plan_spec.specs.Sources.{Sources, Listed, NoPart, ListedClaim, RowOf, SourcesListed}
-use Rattle.plan_spec.proofs.Counting.{same_or_not}
 use Rattle.plan_spec.proofs.Steps.{Stepped, ignored, rotated, promoted, measured, recorded, detected, expected, branched, Run, done, more}
 use Rattle.plan_spec.proofs.Tracking.{Tracked}
 use Rattle.plan_spec.proofs.Sources.{tracked_sources}
-use Rattle.plan_spec.proofs.Growth.{Extends, Grown, AllOf, extends_length, length_concat, grown_refl, grown_trans, run_grown, step_steps}
+use Rattle.plan_spec.proofs.Growth.{Grown, AllOf, length_concat, grown_refl, grown_trans, run_grown, step_steps}
 use Rattle.plan_spec.proofs.Replay.{seam_first, seam_second, seam_part, ReplayIs, rotation_kind, rotation_row_lem, measurement_kind, measurement_row_lem}
 use Rattle.plan_spec.proofs.Accepted.{Accepted, accepted}
 use Rattle.plan_spec.proofs.Connected.{rotations_wide, measurements_wide, start_steps, cut, next_step, read_head}
-use Rattle.plan_spec.proofs.Padded.{Named, accepted_names, Pads, zeroed_length, kind_same, payload_same, rotation_same, rotation_part, measurement_same, measurement_part, after_same}
+use Rattle.plan_spec.proofs.Padded.{Named, accepted_names, Pads, kind_same, payload_same, rotation_same, rotation_part, measurement_same, measurement_part, after_same}
 
 -- ---- the row of each join
 
@@ -38,7 +41,7 @@ module _ (initial dense_peak : ℕ) (u : Walk) (rotations_of_21 : AllOf 21 u.wri
   -- a row that names the place and the number of its join's sources lists them
   row_listed : (m kind : ℕ) (row : List ℕ) (w : Walk) (r : ActiveOrder) (x z : ℕ) → Tracked w r → Follows m w → 0 < length w.order → kind_at plan m ≡ kind
       → (row_component row ≡ (join_of x z w).component) × (row_merge_offset row ≡ length w.written.merges) × (row_merge_count row ≡ length (join_of x z w).sources)
-      → Extends (w.written.merges ++ (join_of x z w).sources) u.written.merges → Listed plan m kind row r.order x z
+      → Begins (w.written.merges ++ (join_of x z w).sources) u.written.merges → Listed plan m kind row r.order x z
   unfolding plan_from join_of
   row_listed m kind row w r x z t replay active kind_is entries e =
       let sources = (join_of x z w).sources in
@@ -46,14 +49,14 @@ module _ (initial dense_peak : ℕ) (u : Walk) (rotations_of_21 : AllOf 21 u.wri
       ap₂ (λ (count offset : ℕ). take count (drop offset u.written.merges)) entries.2 entries.1 ∙ seam_part w.written.merges sources u.written.merges e in
       let same : replay_after plan m ≡ members_of w.components = fun_ext replay in record {
         kind_is = kind_is;
-        inside = let a = extends_length (w.written.merges ++ sources) u.written.merges e in let b = length-append w.written.merges sources in omega (arith, entries.1, entries.2);
+        inside = let a = begins_length (w.written.merges ++ sources) u.written.merges e in let b = length-append w.written.merges sources in omega (arith, entries.1, entries.2);
         component = entries.0 ∙ sym (ap (λ (l : List ℕ). get_or l 0 0) listed);
         sources = subst (λ (l : List ℕ). Sources r.order (replay_after plan m) x z l) (sym listed)
             (subst₂ (λ (order : List ℕ) (b : Replayed). Sources order b x z sources) t.order_same (sym same) (tracked_sources w r t x z active));
       }
 
   -- a step of another kind names no part
-  no_part : (m kind payload : ℕ) (written : List ℕ) → length written ≡ 2 * m → Extends (written ++ step_row kind payload) u.written.steps
+  no_part : (m kind payload : ℕ) (written : List ℕ) → length written ≡ 2 * m → Begins (written ++ step_row kind payload) u.written.steps
       → (kind ≡ 2 → ⊥) → (kind ≡ 4 → ⊥) → NoPart plan m
   unfolding plan_from
   no_part m kind payload written l e two four =
@@ -113,7 +116,7 @@ module _ (kind : ℕ) (rows : Written → List (List ℕ)) (adds : (limit : ℕ)
       ⊎_elim
       (λ e. later (omega arith))
       (λ n. ⊎_elim
-      (λ here. let e = subst (λ (steps : List ℕ). Extends steps o.steps) n.1 (grown_trans (run_grown rest) g).steps in (
+      (λ here. let e = subst (λ (steps : List ℕ). Begins steps o.steps) n.1 (grown_trans (run_grown rest) g).steps in (
         a,
         omega arith,
         seam_first w.written.steps o.steps kind (length (rows w.written)) (2 * a) l e,

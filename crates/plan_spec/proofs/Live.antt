@@ -10,10 +10,12 @@ use lib.Dec.{eqb}
 use lib.ListN.{length, get_or, set}
 use lib.Seq.{get_or-set_same, get_or-set_other}
 use borrow.Author.Tests.{eq-eqb, ne_eqb}
-use Rattle.plan_spec.specs.Lists.{place_of, remove_at, numbers_from, total, concat}
+use Rattle.words.specs.Lists.{numbers_from}
+use Rattle.words.proofs.Numbers.{same_or_not}
+use Rattle.plan_spec.specs.Lists.{place_of, remove_at, total, concat}
 use Rattle.plan_spec.specs.Components.{amplitudes, live_dimension}
 use Rattle.plan_spec.specs.Connectivity.{occurrences, Member, NoRepeats, Rearranged, keep, ActiveOrder, class_of, sets_of, live_at}
-use Rattle.plan_spec.proofs.Counting.{same_or_not, member_or_not, none_here, member_head, occurrences_append, occurrences_set, occurrences_listed, occurrences_two, member_listed, place_below, place_holds, occurrences_remove_at, length_remove_at}
+use Rattle.plan_spec.proofs.Counting.{member_or_not, none_here, member_head, occurrences_append, occurrences_set, occurrences_listed, occurrences_two, member_listed, place_below, place_holds, occurrences_remove_at, length_remove_at}
 
 -- ---- lists that hold the same numbers
 

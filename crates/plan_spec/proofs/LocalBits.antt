@@ -10,12 +10,14 @@ use native.Mathlib.Omega.{arith}
 use lib.Dec.{eqb}
 use lib.ListN.{length, get_or}
 use borrow.Author.Tests.{eq-eqb, ne_eqb}
+use Rattle.words.specs.Lists.{numbers_from}
+use Rattle.words.proofs.Numbers.{same_or_not}
 use Rattle.kernels.specs.Bits.{bit_at}
-use Rattle.plan_spec.specs.Lists.{place_of, numbers_from}
+use Rattle.plan_spec.specs.Lists.{place_of}
 use Rattle.plan_spec.specs.Components.{support, local_mask}
 use Rattle.plan_spec.specs.Connectivity.{Member, keep, support_of}
 use Rattle.plan_spec.specs.Sources.{SetBelow}
-use Rattle.plan_spec.proofs.Counting.{same_or_not, member_cons, member_head, member_tail, member_at}
+use Rattle.plan_spec.proofs.Counting.{member_cons, member_head, member_tail, member_at}
 
 -- ---- local masks
 

@@ -7,11 +7,13 @@ use Prim.Native.Nat.{ℕ, zero, suc, ◌≤◌, ◌<◌, max}
 use native.Mathlib.Omega.{arith}
 use lib.ListN.{length, get_or, set, replicate, get_or-eq_default}
 use lib.Seq.{get_or-set_same, get_or-set_other}
+use Rattle.words.specs.Lists.{numbers_from}
+use Rattle.words.proofs.Numbers.{same_or_not}
 use Rattle.records.specs.declared.Instruction.{Instruction}
-use Rattle.plan_spec.specs.Lists.{remove_at, place_of, numbers_from}
+use Rattle.plan_spec.specs.Lists.{remove_at, place_of}
 use Rattle.plan_spec.specs.Walk.{Walk, join_of, local_action, start, no_step, ignored_step, promotion_step, rotation_step, measurement_step}
 use Rattle.plan_spec.specs.Connectivity.{ActiveOrder}
-use Rattle.plan_spec.proofs.Counting.{same_or_not, length_remove_at, place_below}
+use Rattle.plan_spec.proofs.Counting.{length_remove_at, place_below}
 use Rattle.plan_spec.proofs.Steps.{Stepped, ignored, rotated, promoted, measured, recorded, detected, expected, branched}
 use Rattle.plan_spec.proofs.Joins.{join_cases}
 use Rattle.plan_spec.proofs.Invariant.{after_join, snoc_at}

@@ -3,64 +3,30 @@
 use mathlib.Core.Path.{◌≡◌, refl, sym, ap, ap₂, ◌∙◌, subst}
 use mathlib.Core.Logic.{⊎_elim, inl, inr}
 use mathlib.Core.Bool.{cond}
-use mathlib.Core.List.{List, [], ◌∷◌, ◌++◌, map}
+use mathlib.Core.List.{List, ◌++◌, map}
 use Prim.Native.Nat.{ℕ, zero, suc, ◌+◌, ◌-◌, ◌*◌, ◌^◌, ◌≤◌, ◌<◌, min, max}
 use native.Mathlib.Nat.{mul-suc, mul-le-mul_left}
 use native.Mathlib.Omega.{arith}
 use lib.Dec.{eqb}
-use lib.ListN.{length, get_or, take, drop, replicate, length-drop, length-append}
-use lib.Seq.{take-append-le, drop-append-le}
+use lib.ListN.{length, get_or, take}
 use borrow.Author.Tests.{eq-eqb, ne_eqb}
+use Rattle.words.specs.Lists.{numbers_from, Begins}
+use Rattle.words.proofs.Numbers.{same_or_not}
+use Rattle.words.proofs.Padded.{Zeroed, zeroed_at, zeroed_part}
 use Rattle.records.specs.Record.{instructions_of}
 use Rattle.records.specs.declared.Head.{Head}
 use Rattle.records.specs.declared.Instruction.{Instruction}
 use Rattle.records.specs.declared.Instruction.TheVariants.{Rotation, Promotion, RecordMeasurement, RecordDetector, Measurement, Expectation, DormantBranch}
-use Rattle.plan_spec.specs.Lists.{numbers_from, total, concat}
+use Rattle.plan_spec.specs.Lists.{total, concat}
 use Rattle.plan_spec.specs.Rows.{row_component, row_merge_offset, row_merge_count, row_width, measurement_pivot, step_row}
 use Rattle.plan_spec.specs.Walk.{Written, Walk, start, no_step, ignored_step, promotion_step, rotation_step, measurement_step}
-use Rattle.plan_spec.specs.Plan.{Lengths, Plan, padded, plan_from}
+use Rattle.plan_spec.specs.Plan.{Lengths, Plan, plan_from}
 use Rattle.plan_spec.specs.Connectivity.{Member, NoRepeats, Rearranged, ActiveOrder, active_start, active_after, support_of, Replayed, replay_start, replay_join, kind_at, payload_at, row_at, rotation_at, measurement_at, listed_by, joined_by, replay_promotion, drop_member, changed_by, replay_joined, replay_after, replay_members, SameComponent, longest_of, JoinHolds, RotationJoin, MeasurementJoin, JoinClaim, measurements_in, Connected}
-use Rattle.plan_spec.proofs.Counting.{same_or_not}
 use Rattle.plan_spec.proofs.Steps.{cond_yes, cond_no, Stepped, ignored, rotated, promoted, measured, recorded, detected, expected, branched, Run, done, more}
-use Rattle.plan_spec.proofs.Growth.{Extends, Grown, AllOf, AllInside, row-at, length_concat, grown_refl, grown_trans, run_grown, step_steps, run_rotations, run_measurements, run_inside, start_wide, start_inside}
+use Rattle.plan_spec.proofs.Growth.{Grown, AllOf, AllInside, row-at, length_concat, grown_refl, grown_trans, run_grown, step_steps, run_rotations, run_measurements, run_inside, start_wide, start_inside}
 use Rattle.plan_spec.proofs.Replay.{seam_first, seam_second, seam_below}
 use Rattle.plan_spec.proofs.Claims.{map_same}
 use Rattle.plan_spec.proofs.Accepted.{Accepted}
-
--- ---- words and zeros
-
--- the words, followed by zeros
-abbrev pub Zeroed : List ℕ → List ℕ → Type 0
-Zeroed ws held = (n : ℕ) × (held ≡ padded n ws)
-
--- an entry of zeros
-pub zeros_at : (n i : ℕ) → get_or {A = ℕ} (replicate n 0) i 0 ≡ 0
-zeros_at zero i = refl
-zeros_at (suc n) zero = refl
-zeros_at (suc n) (suc i) = zeros_at n i
-
--- an entry of words and zeros
-then_zeros_at : (ws : List ℕ) (n i : ℕ) → get_or (ws ++ replicate n 0) i 0 ≡ get_or ws i 0
-then_zeros_at [] n i = zeros_at n i
-then_zeros_at (a ∷ ws) n zero = refl
-then_zeros_at (a ∷ ws) n (suc i) = then_zeros_at ws n i
-
--- every entry is the same
-pub zeroed_at : (ws held : List ℕ) (i : ℕ) → Zeroed ws held → get_or held i 0 ≡ get_or ws i 0
-zeroed_at ws held i z = ap (λ (l : List ℕ). get_or l i 0) z.1 ∙ then_zeros_at ws (z.0 - length ws) i
-
--- no word is lost
-pub zeroed_length : (ws held : List ℕ) → Zeroed ws held → length ws ≤ length held
-zeroed_length ws held z = let e = ap length z.1 ∙ length-append ws (replicate (z.0 - length ws) 0) in omega arith
-
--- and every part that lies among the words
-pub zeroed_part : (ws held : List ℕ) (at size : ℕ) → at + size ≤ length ws → Zeroed ws held → take size (drop at held) ≡ take size (drop at ws)
-zeroed_part ws held at size h z =
-    let zeros : List ℕ = replicate (z.0 - length ws) 0 in
-    let l = length-drop at ws in
-    ap (λ (xs : List ℕ). take size (drop at xs)) z.1
-    ∙ ap (take size) (drop-append-le at ws zeros (omega arith))
-    ∙ take-append-le size (drop at ws) zeros (omega arith)
 
 -- ---- what the steps name
 
@@ -71,7 +37,7 @@ RowNamed o m =
     × (get_or o.steps (2 * m) 0 ≡ 4 → get_or o.steps (suc (2 * m)) 0 < length o.measurements)
 
 -- a step of another kind names none
-none_named : (o : Written) (m kind payload : ℕ) (written : List ℕ) → length written ≡ 2 * m → Extends (written ++ step_row kind payload) o.steps
+none_named : (o : Written) (m kind payload : ℕ) (written : List ℕ) → length written ≡ 2 * m → Begins (written ++ step_row kind payload) o.steps
     → (kind ≡ 2 → ⊥) → (kind ≡ 4 → ⊥) → RowNamed o m
 none_named o m kind payload written l e two four =
     let k = seam_first written o.steps kind payload (2 * m) l e in (λ f. absurd (two (sym k ∙ f)), λ f. absurd (four (sym k ∙ f)))

@@ -10,47 +10,49 @@ use lib.Dec.{eqb, ltb, leb-suc-suc}
 use lib.ListN.{length, get_or, take, drop, set, length-append, get_or-eq_default}
 use lib.Seq.{get_or-set_same, get_or-set_other, get_or_at, take-append_seam, drop-append_seam}
 use borrow.Author.Tests.{eq-eqb, ne_eqb, lt-ltb, le-ltb}
+use Rattle.words.specs.Lists.{numbers_from, Begins}
+use Rattle.words.proofs.Numbers.{same_or_not}
+use Rattle.words.proofs.Patches.{begins_length}
 use Rattle.kernels.specs.declared.active.PrecomputedActivePauliRotationKernel.{PrecomputedActivePauliRotationKernel}
 use Rattle.kernels.specs.declared.active.PrecomputedActivePauliMeasurementKernel.{PrecomputedActivePauliMeasurementKernel}
 use Rattle.records.specs.declared.Instruction.{Instruction}
-use Rattle.plan_spec.specs.Lists.{is_in, remove_at, numbers_from, concat}
+use Rattle.plan_spec.specs.Lists.{is_in, remove_at, concat}
 use Rattle.plan_spec.specs.Rows.{row_component, measurement_pivot, step_row}
 use Rattle.plan_spec.specs.Walk.{Walk, Join, join_of, start, no_step, ignored_step, promotion_step, rotation_step, measurement_step, row_head, rotation_row, measurement_row}
 use Rattle.plan_spec.specs.Plan.{Plan, plan_from}
 use Rattle.plan_spec.specs.Connectivity.{ActiveOrder, active_step, Replayed, joined_members, replay_join, kind_at, payload_at, row_at, rotation_at, measurement_at, listed_by, joined_by, replay_promotion, drop_member, changed_by, replay_joined, replay_after}
-use Rattle.plan_spec.proofs.Counting.{same_or_not}
 use Rattle.plan_spec.proofs.Steps.{cond_yes, cond_no, Stepped, ignored, rotated, promoted, measured, recorded, detected, expected, branched, Run, done, more}
 use Rattle.plan_spec.proofs.Invariant.{after_join, snoc_at}
 use Rattle.plan_spec.proofs.Tracking.{Tracked, active_of, tracked_here, target_below, target_members, join_length, step_tracked}
-use Rattle.plan_spec.proofs.Growth.{Extends, Grown, AllOf, row-at, extends_length, grown_trans, run_grown, step_steps}
+use Rattle.plan_spec.proofs.Growth.{Grown, AllOf, row-at, grown_trans, run_grown, step_steps}
 
 -- ---- what was appended stands in the longer list
 
 -- a pair of words
-pub seam_first : (xs zs : List ℕ) (a b n : ℕ) → length xs ≡ n → Extends (xs ++ (a ∷ b ∷ [])) zs → get_or zs n 0 ≡ a
+pub seam_first : (xs zs : List ℕ) (a b n : ℕ) → length xs ≡ n → Begins (xs ++ (a ∷ b ∷ [])) zs → get_or zs n 0 ≡ a
 seam_first xs zs a b n l e =
     ap (λ (ys : List ℕ). get_or ys n 0) (e.1 ∙ append_assoc xs (a ∷ b ∷ []) e.0) ∙ get_or_at xs a (b ∷ e.0) 0 n l
 
-pub seam_second : (xs zs : List ℕ) (a b n : ℕ) → length xs ≡ n → Extends (xs ++ (a ∷ b ∷ [])) zs → get_or zs (suc n) 0 ≡ b
+pub seam_second : (xs zs : List ℕ) (a b n : ℕ) → length xs ≡ n → Begins (xs ++ (a ∷ b ∷ [])) zs → get_or zs (suc n) 0 ≡ b
 seam_second xs zs a b n l e =
     ap (λ (ys : List ℕ). get_or ys (suc n) 0) (e.1 ∙ append_assoc xs (a ∷ b ∷ []) e.0 ∙ sym (append_assoc xs (a ∷ []) (b ∷ e.0)))
     ∙ get_or_at (xs ++ (a ∷ [])) b e.0 0 (suc n) (length-append xs (a ∷ []) ∙ omega arith)
 
 -- a part
-pub seam_part : (xs ys zs : List ℕ) → Extends (xs ++ ys) zs → take (length ys) (drop (length xs) zs) ≡ ys
+pub seam_part : (xs ys zs : List ℕ) → Begins (xs ++ ys) zs → take (length ys) (drop (length xs) zs) ≡ ys
 seam_part xs ys zs e =
     ap (λ (l : List ℕ). take (length ys) (drop (length xs) l)) (e.1 ∙ append_assoc xs ys e.0)
     ∙ ap (take (length ys)) (drop-append_seam xs (ys ++ e.0)) ∙ take-append_seam ys e.0
 
 -- an entry
-pub seam_entry : {A : Type 0} (xs zs : List A) (a d : A) → Extends (xs ++ (a ∷ [])) zs → get_or zs (length xs) d ≡ a
+pub seam_entry : {A : Type 0} (xs zs : List A) (a d : A) → Begins (xs ++ (a ∷ [])) zs → get_or zs (length xs) d ≡ a
 seam_entry xs zs a d e = ap (λ (l : List _). get_or l (length xs) d) (e.1 ∙ append_assoc xs (a ∷ []) e.0) ∙ get_or_at xs a e.0 d (length xs) refl
 
-pub seam_below : {A : Type 0} (xs zs : List A) (a : A) → Extends (xs ++ (a ∷ [])) zs → length xs < length zs
-seam_below xs zs a e = let f = extends_length (xs ++ (a ∷ [])) zs e in let g = length-append xs (a ∷ []) in omega arith
+pub seam_below : {A : Type 0} (xs zs : List A) (a : A) → Begins (xs ++ (a ∷ [])) zs → length xs < length zs
+seam_below xs zs a e = let f = begins_length (xs ++ (a ∷ [])) zs e in let g = length-append xs (a ∷ []) in omega arith
 
 -- a row
-seam_row : (n : ℕ) (xs zs : List (List ℕ)) (row : List ℕ) → AllOf n zs → Extends (xs ++ (row ∷ [])) zs → row_at n (concat zs) (length xs) ≡ row
+seam_row : (n : ℕ) (xs zs : List (List ℕ)) (row : List ℕ) → AllOf n zs → Begins (xs ++ (row ∷ [])) zs → row_at n (concat zs) (length xs) ≡ row
 seam_row n xs zs row wide e = row-at n zs (length xs) wide (seam_below xs zs row e) ∙ seam_entry xs zs row [] e
 
 -- ---- bins that agree are joined alike
@@ -86,11 +88,11 @@ module _ (initial dense_peak : ℕ) (u : Walk) (rotations_wide : AllOf 21 u.writ
   ReplayIs m w = (i : ℕ) → replay_after plan m i ≡ get_or w.components i []
 
   -- the kind and the payload that a step wrote
-  wrote_kind : (m kind payload : ℕ) (written : List ℕ) → length written ≡ 2 * m → Extends (written ++ step_row kind payload) u.written.steps → kind_at plan m ≡ kind
+  wrote_kind : (m kind payload : ℕ) (written : List ℕ) → length written ≡ 2 * m → Begins (written ++ step_row kind payload) u.written.steps → kind_at plan m ≡ kind
   unfolding plan_from
   wrote_kind m kind payload written l e = seam_first written u.written.steps kind payload (2 * m) l e
 
-  wrote_payload : (m kind payload : ℕ) (written : List ℕ) → length written ≡ 2 * m → Extends (written ++ step_row kind payload) u.written.steps → payload_at plan m ≡ payload
+  wrote_payload : (m kind payload : ℕ) (written : List ℕ) → length written ≡ 2 * m → Begins (written ++ step_row kind payload) u.written.steps → payload_at plan m ≡ payload
   unfolding plan_from
   wrote_payload m kind payload written l e = seam_second written u.written.steps kind payload (2 * m) l e
 

@@ -12,10 +12,13 @@ use native.Mathlib.Omega.{arith}
 use lib.Dec.{eqb, ltb}
 use lib.Ieee.{fin}
 use lib.IntN.{pos}
-use lib.ListN.{length, get_or, set, length-set, length-append, length-map, replicate, length-replicate}
+use lib.ListN.{length, get_or, set, length-set, length-append, length-map}
 use lib.Seq.{get_or-set_other, take-length}
 use lib.Pow.{pow_mono, pow-add}
 use borrow.Author.Tests.{ltb-false, ne_eqb}
+use Rattle.words.specs.Lists.{numbers_from}
+use Rattle.words.proofs.Numbers.{same_or_not, length-numbers}
+use Rattle.words.proofs.Padded.{padded_length}
 use Rattle.records.specs.Record.{kind, width, x_mask, z_mask, phase, pivot, flag, measurement_of, instructions_by_kind, instruction_of, record_at, records_of, instructions_of}
 use Rattle.records.specs.Pass.{Passed, coordinates_after, record_pass}
 use Rattle.records.specs.Sound.{Sound, coordinates_through}
@@ -23,14 +26,14 @@ use Rattle.records.specs.declared.Head.{Head}
 use Rattle.records.specs.declared.Instruction.{Instruction}
 use Rattle.records.specs.declared.Instruction.TheVariants.{Rotation, Promotion, RecordMeasurement, RecordDetector, Measurement, Expectation, DormantBranch}
 use Rattle.records.proofs.Laws.{passed_sound, passed_coordinates, instructions_length, instruction_at}
-use Rattle.plan_spec.specs.Lists.{remove_at, numbers_from, total, concat}
+use Rattle.plan_spec.specs.Lists.{remove_at, total, concat}
 use Rattle.plan_spec.specs.Components.{gathered, emptied, joined, amplitudes, live_dimension}
 use Rattle.plan_spec.specs.WholeWorks.{without_quotient}
 use Rattle.plan_spec.specs.Walk.{Written, Walk, Join, join_of, rotation_row, measurement_row, start, no_step, ignored_step, promotion_step, rotation_step, measurement_step}
-use Rattle.plan_spec.specs.Plan.{Lengths, Plan, planned, unread, unread_plan, groups_of, plan_from, buffers_refused, max_dimension, for_dense_peak, plan_of, Result, refused_at, padded, held_after}
+use Rattle.plan_spec.specs.Plan.{Lengths, Plan, planned, unread, unread_plan, groups_of, plan_from, buffers_refused, max_dimension, for_dense_peak, plan_of, Result, refused_at, held_after}
 use Rattle.plan_spec.specs.Connectivity.{occurrences, Member, NoRepeats, ActiveOrder, active_start, active_step, active_after, promotions_in}
 use Rattle.plan_spec.specs.Laws.{Fits, FitsIn}
-use Rattle.plan_spec.proofs.Counting.{same_or_not, one_here, none_here, member_head, member_tail, length_remove_at, length-numbers}
+use Rattle.plan_spec.proofs.Counting.{one_here, none_here, member_head, member_tail, length_remove_at}
 use Rattle.plan_spec.proofs.Steps.{cond_yes, cond_no, Stepped, ignored, rotated, promoted, measured, recorded, detected, expected, branched, Run, done, more}
 use Rattle.plan_spec.proofs.Joins.{length_emptied, length_joined, emptied_out, gathered_holds}
 use Rattle.plan_spec.proofs.Live.{rearranged_length}
@@ -600,10 +603,6 @@ module _ (h : Head) (ws : List ℕ) (l : Lengths) (p : Plan) (e : plan_of h ws l
   pub plan_fits_in : FitsIn p l
   plan_fits_in = (either (unread h) refl).1
 
--- a buffer keeps its length, with words that fit it and with none
-pub padded_length : (n : ℕ) (ws : List ℕ) → length ws ≤ n → length (padded n ws) ≡ n
-padded_length n ws h = let e = length-append ws (replicate {A = ℕ} (n - length ws) 0) in let f = length-replicate {A = ℕ} (n - length ws) 0 in omega arith
-
 pub held_length : (n : ℕ) (output : Plan → List ℕ) (r : Result) → ((p : Plan) → r ≡ planned p → length (output p) ≤ n) → length (held_after n output r) ≡ n
-held_length n output (planned p) h = padded_length n (output p) (h p refl)
-held_length n output (refused_at number index) h = padded_length n [] (omega arith)
+held_length n output (planned p) h = let all = padded_length n (output p) in let few = h p refl in omega arith
+held_length n output (refused_at number index) h = let all = padded_length n [] in omega arith

@@ -10,6 +10,8 @@ use native.Mathlib.Omega.{arith}
 use lib.Dec.{eqb, ltb}
 use lib.ListN.{length, get_or}
 use borrow.Author.Tests.{lt-ltb, le-ltb, ltb-false}
+use Rattle.words.proofs.Numbers.{same_or_not}
+use Rattle.words.proofs.Padded.{zeroed_at}
 use Rattle.kernels.specs.Bits.{dimension}
 use Rattle.refusals.specs.Answer.{Answer, given, refused}
 use Rattle.kernels.specs.Active.{of_dimension, rotation_kernel, nondiagonal, diagonal}
@@ -21,7 +23,6 @@ use Rattle.plan_spec.specs.Walk.{Walk, join_of, local_action, refuse, when_given
 use Rattle.plan_spec.specs.Plan.{Lengths, Plan, planned, unread, plan_from, unread_plan, refuse_all, after_walk, plan_read, for_dense_peak, ceiling_refused, plan_of}
 use Rattle.plan_spec.specs.Connectivity.{ActiveOrder, active_start, active_step, Replayed, replay_after, replay_joined, longest_of}
 use Rattle.plan_spec.specs.Laws.{HasDimension, HasDimensions, under, HoldsPlan}
-use Rattle.plan_spec.proofs.Counting.{same_or_not}
 use Rattle.plan_spec.proofs.Steps.{cond_yes, cond_no, dimension_below, Stepped, ignored, rotated, promoted, measured, recorded, detected, expected, branched, Run, done, more, onward_finished, stepped, run_of_walk}
 use Rattle.plan_spec.proofs.Tracking.{Tracked, target_members, start_tracked, step_tracked}
 use Rattle.plan_spec.proofs.Replay.{joined_components}
@@ -31,7 +32,7 @@ use Rattle.plan_spec.proofs.Sizes.{reached_longest}
 use Rattle.plan_spec.proofs.Accepted.{Accepted, ceiling_passed, accepted}
 use Rattle.plan_spec.proofs.Room.{or-false, unread_planned}
 use Rattle.plan_spec.proofs.Connected.{longest_is, read_head}
-use Rattle.plan_spec.proofs.Padded.{Pads, zeroed_at, after_same, joined_same, accepted_names}
+use Rattle.plan_spec.proofs.Padded.{Pads, after_same, joined_same, accepted_names}
 
 -- below the ceiling the dimension is the power of two, whatever the ceiling is
 dimension_at : (ceiling size : ℕ) → size < ceiling → size < 64 → dimension ceiling size ≡ Some (2 ^ size)

@@ -9,11 +9,13 @@ use native.Mathlib.Omega.{arith}
 use lib.Dec.{T, eqb, ltb}
 use lib.ListN.{length, get_or, length-append}
 use lib.Bits.{bit_and}
-use lib.Pow.{pow_mono}
 use lib.Ieee.{Float, binary64, fits, neg}
-use lib.Ieee.Bits.{to_bits-lt, of_bits-fits}
+use lib.Ieee.Bits.{of_bits-fits}
 use lib.Ieee.Fits.{neg-fits, add-fits, sub-fits, mul-fits}
 use borrow.Author.Tests.{ltb-true, ltb-false}
+use Rattle.words.specs.Words.{Words}
+use Rattle.words.proofs.Patches.{begins_length}
+use Rattle.words.proofs.Words.{below_each, words_append, cond_word, power_word, flag_word_lem, FloatFits, float_word}
 use Rattle.kernels.specs.Bits.{odd_ones, dimension, bit_at, without_bit, highest_bit}
 use Rattle.refusals.specs.Answer.{Answer, given, refused}
 use Rattle.kernels.specs.Active.{unit_power, phase_factor, odd_phase, action, imaginary, of_dimension, rotation_kernel, rotation, measurement_kernel, measurement}
@@ -29,54 +31,21 @@ use Rattle.records.proofs.Laws.{instructions_length, instruction_at}
 use Rattle.plan_spec.specs.Lists.{remove_at, concat}
 use Rattle.plan_spec.specs.Rows.{step_row}
 use Rattle.plan_spec.specs.Components.{local_mask, allocated_for}
-use Rattle.plan_spec.specs.Walk.{Walk, join_of, local_action, flag_word, bits_word, pair_words, row_head, rotation_row, measurement_row, start, no_step, ignored_step, promotion_step, rotation_step, measurement_step}
+use Rattle.plan_spec.specs.Walk.{Walk, join_of, local_action, pair_words, row_head, rotation_row, measurement_row, start, no_step, ignored_step, promotion_step, rotation_step, measurement_step}
 use Rattle.plan_spec.specs.Plan.{Lengths, Plan, planned, unread, unread_plan, plan_from, max_dimension, for_dense_peak, plan_of}
 use Rattle.plan_spec.specs.Connectivity.{ActiveOrder, active_start, active_step}
-use Rattle.plan_spec.specs.Laws.{Words, PlanWords, PlanCounts}
+use Rattle.plan_spec.specs.Laws.{PlanWords, PlanCounts}
 use Rattle.plan_spec.proofs.Counting.{member_at, place_below}
 use Rattle.plan_spec.proofs.Steps.{cond_yes, Stepped, ignored, rotated, promoted, measured, recorded, detected, expected, branched, Run, done, more}
 use Rattle.plan_spec.proofs.LocalBits.{local_below}
 use Rattle.plan_spec.proofs.Invariant.{source_below}
 use Rattle.plan_spec.proofs.Tracking.{Tracked, active_of, tracked_here, target_below, start_tracked, step_tracked}
-use Rattle.plan_spec.proofs.Growth.{concat_more, row_count, run_grown, extends_length, length_concat, run_rotations, run_measurements, start_wide}
+use Rattle.plan_spec.proofs.Growth.{concat_more, row_count, run_grown, length_concat, run_rotations, run_measurements, start_wide}
 use Rattle.plan_spec.proofs.Accepted.{ceiling_passed, accepted}
 use Rattle.plan_spec.proofs.Room.{Narrow, longest_count, steps_count, run_components, start_components, component_count, rows_most, merges_most, peak_below, passed_narrow, passed_promotions, or-false}
 use Rattle.plan_spec.proofs.Sizes.{reached_longest}
 
--- ---- lists of words
-
--- words behind words
-pub words_append : (xs ys : List ℕ) → Words xs → Words ys → Words (xs ++ ys)
-words_append [] ys p q = q
-words_append (x ∷ xs) ys p q = (p.0, words_append xs ys p.1 q)
-
--- a list whose entries are words
-words_each : (xs : List ℕ) → ((i : ℕ) → i < length xs → get_or xs i 0 < 2 ^ 64) → Words xs
-words_each [] h = tt
-words_each (x ∷ xs) h = (h zero (omega arith), words_each xs (λ i g. h (suc i) (omega arith)))
-
--- either of two words
-cond_word : (t : Bool) (a b : ℕ) → a < 2 ^ 64 → b < 2 ^ 64 → cond t a b < 2 ^ 64
-cond_word true a b p q = p
-cond_word false a b p q = q
-
--- a flag's
-pub flag_word_lem : (t : Bool) → flag_word t < 2 ^ 64
-flag_word_lem t = cond_word t 1 0 (omega arith) (omega arith)
-
--- a power of two below 2 ^ 64
-power_word : (k : ℕ) → k < 64 → 2 ^ k < 2 ^ 64
-power_word k h = let m = pow_mono {i = k} {j = 63} (omega arith) in omega arith
-
 -- ---- floats that binary64 holds
-
--- binary64 holds v
-abbrev pub FloatFits : Float → Type 0
-FloatFits v = T (fits binary64 v)
-
--- their bits are a word
-float_word : (v : Float) → FloatFits v → bits_word v < 2 ^ 64
-float_word v h = to_bits-lt binary64 v h
 
 -- two of them
 pair_words_lem : (c : Complex64) → FloatFits c.re → FloatFits c.im → Words (pair_words c)
@@ -229,10 +198,10 @@ few_before {w = w} {u = u} run few =
     let v = u.written in
     let g = run_grown run in
     let c = run_components run in
-    let merges = extends_length o.merges v.merges g.merges in
-    let rotations = extends_length o.rotations v.rotations g.rotations in
-    let promotions = extends_length o.promotions v.promotions g.promotions in
-    let measurements = extends_length o.measurements v.measurements g.measurements in
+    let merges = begins_length o.merges v.merges g.merges in
+    let rotations = begins_length o.rotations v.rotations g.rotations in
+    let promotions = begins_length o.promotions v.promotions g.promotions in
+    let measurements = begins_length o.measurements v.measurements g.measurements in
     record { components = omega (arith, few.components); merges = omega (arith, few.merges); rows = omega (arith, few.rows) }
 
 -- what was written so far is words, and binary64 holds the works
@@ -261,7 +230,7 @@ module _ (w : Walk) (r : ActiveOrder) (t : Tracked w r) (x z : ℕ) (few : Few w
   -- sources are numbers of components
   sources_words : Words (join_of x z w).sources
   unfolding join_of
-  sources_words = words_each (join_of x z w).sources λ i h.
+  sources_words = below_each (join_of x z w).sources λ i h.
       let b = source_below w.components (active_of w r) (tracked_here w r t) x z _ (member_at (join_of x z w).sources i h) in omega (arith, few.components)
 
   -- the first eleven words of the join's row
@@ -444,7 +413,7 @@ module _ {limit initial n : ℕ} {p : Plan} (m : Made limit initial n p) where
       let w = made_worded in record {
         steps = w.steps;
         merges = w.merges;
-        sizes = words_each m.last.longest λ i h. let b = reached_longest 64 (omega arith) (omega arith) m.start_size m.run i in omega arith;
+        sizes = below_each m.last.longest λ i h. let b = reached_longest 64 (omega arith) (omega arith) m.start_size m.run i in omega arith;
         rotations = w.rotations;
         promotions = w.promotions;
         measurements = w.measurements;

@@ -9,10 +9,10 @@ use native.Mathlib.Omega.{arith}
 use lib.ListN.{length, get_or, take}
 use lib.IntN.{pos}
 use lib.Ieee.{fin}
+use Rattle.words.specs.Lists.{numbers_from}
 use Rattle.records.specs.Record.{instructions_of}
 use Rattle.records.specs.declared.Head.{Head}
 use Rattle.records.specs.declared.Instruction.{Instruction}
-use Rattle.plan_spec.specs.Lists.{numbers_from}
 use Rattle.plan_spec.specs.WholeWorks.{with_quotient}
 use Rattle.plan_spec.specs.Plan.{Plan, planned, plan_of}
 use Rattle.plan_spec.specs.Circuits.{enough}

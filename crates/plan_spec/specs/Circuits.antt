@@ -3,10 +3,10 @@
 -- seven outputs.
 use Rattle.std.specs.Prelude.{ℕ, ◌+◌, ◌*◌, ◌/◌, Bool, true, ◌&&◌, List, [], ◌∷◌, length, if◌then◌else◌, ◌==◌}
 use Rattle.std.specs.Float.Ieee.{to_bits}
+use Rattle.words.specs.Words.{flag_word, bits_word}
 use Rattle.records.specs.Record.{kind, sine, cosine}
 use Rattle.records.specs.Pass.{sums_to_one}
 use Rattle.plan_spec.specs.WholeWorks.{whole_words}
-use Rattle.plan_spec.specs.Walk.{flag_word, bits_word}
 use Rattle.plan_spec.specs.Plan.{Lengths, Plan, Result, planned, refused_at, plan_of}
 
 pub record Circuit : Type 0 where

@@ -2,11 +2,12 @@
 -- instructions alone; the replayed components off the finished plan's words alone. Neither mentions how the plan was made.
 use Rattle.std.specs.Prelude.{ℕ, zero, suc, ◌+◌, ◌-◌, ◌*◌, ◌^◌, ◌≤◌, ◌<◌, min, max, ◌≡◌, ◌⊎◌, ◌↔◌, Bool, not, ◌||◌, length, get_or, take, drop, if◌then◌else◌, nat_lt, ◌==◌}
 use mathlib.Core.List.{List, [], ◌∷◌, ◌++◌, map, Memᴰ}
+use Rattle.words.specs.Lists.{numbers_from}
 use Rattle.kernels.specs.Bits.{bit_at}
 use Rattle.records.specs.declared.Instruction.{Instruction}
 use Rattle.records.specs.declared.Instruction.TheVariants.{Rotation, Promotion, RecordMeasurement, RecordDetector, Measurement, Expectation, DormantBranch}
 use Rattle.plan_spec.specs.Rows.{measurement_words, rotation_words, rotation_kind, promotion_kind, measurement_kind, row_component, row_merge_offset, row_merge_count, row_width, row_x, row_z, measurement_pivot}
-use Rattle.plan_spec.specs.Lists.{is_in, remove_at, numbers_from, total, concat}
+use Rattle.plan_spec.specs.Lists.{is_in, remove_at, total, concat}
 use Rattle.plan_spec.specs.Components.{amplitudes}
 use Rattle.plan_spec.specs.Plan.{Plan}
 

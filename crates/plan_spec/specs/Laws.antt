@@ -1,10 +1,11 @@
 -- Laws that hold of every state the walk reaches and of every plan: works are numbers or infinite, never negative; whole works are given exactly where
 -- the width never passes 38, and there the float works are these numbers; the states that the Rust guards against never occur; the outputs fit the
 -- lent buffers; every word of a plan is below 2 ^ 64; every component has its dimension under the ceiling; and which ceilings a plan has.
-use Rattle.std.specs.Prelude.{ℕ, ◌+◌, ◌*◌, ◌%◌, ◌^◌, ◌≤◌, ◌<◌, ◌≡◌, List, [], ◌∷◌, Bool, ℤ, pos, length, get_or, take, Float, Some}
+use Rattle.std.specs.Prelude.{ℕ, ◌+◌, ◌*◌, ◌%◌, ◌^◌, ◌≤◌, ◌<◌, ◌≡◌, List, [], Bool, ℤ, pos, length, get_or, take, Float, Some}
 use Rattle.std.specs.Float.{inf, fin, binary64}
 use Rattle.std.specs.Float.Ieee.{of_int, to_bits}
 use Rattle.std.specs.Float.Ieee.Exact.{HasValue}
+use Rattle.words.specs.Words.{bits_word, Words}
 use Rattle.kernels.specs.Bits.{dimension}
 use Rattle.records.specs.Pass.{most_coordinates}
 use Rattle.records.specs.declared.Head.{Head}
@@ -12,7 +13,7 @@ use Rattle.records.specs.declared.Instruction.{Instruction}
 use Rattle.plan_spec.specs.Rows.{measurement_words, rotation_words, step_words, row_width}
 use Rattle.plan_spec.specs.Components.{members_of, size_of}
 use Rattle.plan_spec.specs.WholeWorks.{widest_counted, WholeWorks, too_wide, without_quotient, with_quotient}
-use Rattle.plan_spec.specs.Walk.{Walk, Written, bits_word, join_of}
+use Rattle.plan_spec.specs.Walk.{Walk, Written, join_of}
 use Rattle.plan_spec.specs.Plan.{group_words, most_ceiling, Plan, Lengths}
 use Rattle.plan_spec.specs.Connectivity.{Member, active_start, active_after, replay_after, replay_joined}
 
@@ -80,11 +81,6 @@ pub record FitsIn (p : Plan) (l : Lengths) : Type 0 where
   pub promotions : length p.promotions ≤ l.promotions
   pub measurements : length p.measurements ≤ l.measurements
   pub groups : length p.groups ≤ l.groups
-
--- 02, CR 2: "a run of 64-bit ... words": every entry is one
-abbrev pub Words : List ℕ → Type 0
-Words [] = Unit
-Words (w ∷ ws) = (w < 2 ^ 64) × Words ws
 
 -- every word of a plan's first six outputs and of its scalar fields, the works as bits
 pub record PlanWords (p : Plan) : Type 0 where

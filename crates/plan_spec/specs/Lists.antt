@@ -27,11 +27,6 @@ place_of a (b ∷ bs) = if a == b then zero else suc (place_of a bs)
 abbrev pub remove_at : {A : Type 0} → ℕ → List A → List A
 remove_at p xs = take p xs ++ drop (suc p) xs
 
--- n numbers in order, from a on
-abbrev pub numbers_from : ℕ → ℕ → List ℕ
-numbers_from a zero = []
-numbers_from a (suc n) = a ∷ numbers_from (suc a) n
-
 abbrev pub total : List ℕ → ℕ
 total [] = zero
 total (n ∷ ns) = n + total ns

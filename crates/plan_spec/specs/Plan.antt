@@ -1,8 +1,9 @@
 -- The plan of an input: refusals 1 to 4, the record pass, the walk, the choice and the outputs. Written from 01, sections 4 and 6, and "Where planning stops"; the
 -- whole works are 02's, CR 1, and the ceiling is 02's, CR 4.
-use Rattle.std.specs.Prelude.{ℕ, suc, ◌+◌, ◌-◌, ◌*◌, ◌/◌, ◌%◌, List, [], ◌∷◌, ◌++◌, Bool, true, false, if◌then◌else◌, not, ◌&&◌, ◌||◌, nat_le, nat_lt, ◌==◌, length, replicate, pos, negsuc, Float, Option, Some, None}
+use Rattle.std.specs.Prelude.{ℕ, suc, ◌+◌, ◌*◌, ◌%◌, List, [], ◌∷◌, ◌++◌, Bool, false, if◌then◌else◌, not, ◌&&◌, ◌||◌, nat_le, nat_lt, ◌==◌, length, pos, negsuc, Float, Option, Some, None}
 use Rattle.std.specs.Float.{fin, binary64}
 use Rattle.std.specs.Float.Ieee.{round, mul, sub, le, of_int}
+use Rattle.words.specs.Lists.{padded}
 use Rattle.kernels.specs.Bits.{dimension}
 use Rattle.records.specs.Record.{record_words, record_count, instructions_of}
 use Rattle.records.specs.Pass.{most_coordinates, Checked, Passed, Refused, record_pass}
@@ -46,10 +47,6 @@ pub record Plan : Type 0 where
 pub data Result : Type 0 where
   planned : Plan → Result
   refused_at : (number index : ℕ) → Result
-
--- "unused words are zero": what a lent buffer of n words holds with these used
-abbrev pub padded : (long : ℕ) → (used : List ℕ) → List ℕ
-padded n ws = ws ++ replicate (n - length ws) 0
 
 -- what the lent buffer of one output holds afterwards: "no plan, all seven outputs zero" after a refusal
 abbrev pub held_after : (long : ℕ) → (Plan → List ℕ) → Result → List ℕ

@@ -3,6 +3,8 @@
 use Rattle.std.specs.Prelude.{ℕ, suc, ◌+◌, ◌*◌, ◌^◌, max, List, [], ◌∷◌, ◌++◌, map, Bool, true, false, if◌then◌else◌, not, nat_lt, ◌==◌, length, get_or, set, replicate, pos, Float, Option, Some, None}
 use Rattle.std.specs.Float.{fin, binary64}
 use Rattle.std.specs.Float.Ieee.{add, mul, to_bits}
+use Rattle.words.specs.Lists.{numbers_from}
+use Rattle.words.specs.Words.{flag_word, bits_word}
 use Rattle.kernels.specs.Bits.{odd_ones, highest_bit, exp2, dimension}
 use Rattle.refusals.specs.Answer.{Answer, given, refused}
 use Rattle.kernels.specs.Active.{action, rotation, measurement}
@@ -13,7 +15,7 @@ use Rattle.kernels.specs.declared.active.PrecomputedActivePauliMeasurementKernel
 use Rattle.records.specs.declared.Instruction.{Instruction}
 use Rattle.records.specs.declared.Instruction.TheVariants.{Rotation, Promotion, RecordMeasurement, RecordDetector, Measurement, Expectation, DormantBranch}
 use Rattle.plan_spec.specs.Rows.{no_kind, ignored_kind, rotation_kind, promotion_kind, measurement_kind, step_row}
-use Rattle.plan_spec.specs.Lists.{is_in, place_of, remove_at, numbers_from}
+use Rattle.plan_spec.specs.Lists.{is_in, place_of, remove_at}
 use Rattle.plan_spec.specs.Components.{touched, sources_of, gathered, joined, joining_cost, live_dimension, local_mask, float_two}
 use Rattle.plan_spec.specs.WholeWorks.{WholeSums, first_sums, with_works, whole_joining_cost}
 
@@ -55,12 +57,6 @@ start k =
     }
 
 -- ---- rows: "Flags are 0 or 1, floats stand as their bits"
-
-abbrev pub flag_word : Bool → ℕ
-flag_word b = if b then 1 else 0
-
-abbrev pub bits_word : Float → ℕ
-bits_word x = to_bits binary64 x
 
 abbrev pub pair_words : Complex64 → List ℕ
 pair_words c = bits_word c.re ∷ bits_word c.im ∷ []

@@ -1,6 +1,7 @@
 -- What the contracts of the crate `record_steps` say, over the state's arrays as lists: what a
 -- record does before and after its join. 01, section 4, and "Where planning stops".
 use Rattle.std.specs.Prelude.{ℕ, ◌+◌, ◌*◌, ◌%◌, ◌^◌, ◌<◌, ◌≤◌, max, ◌≡◌, List, [], ◌∷◌, length, get_or, set, Option, None, Some, Result, Ok, Err, if◌then◌else◌, nat_le, ◌==◌}
+use Rattle.words.specs.Lists.{patch}
 use Rattle.refusals.specs.Answer.{Answer, given, refused, number_or_0}
 use Rattle.refusals.specs.Numbers.{number_of}
 use Rattle.refusals.specs.declared.Reason.{Reason}
@@ -17,7 +18,6 @@ use Rattle.masks.specs.Positions.{picked, reached_mask, Below512, sources_in, lo
 use Rattle.work_sums.specs.Tally.{joining_of, Countable, JoinFits, rotated_tally, measured_tally, promoted_tally}
 use Rattle.work_sums.specs.declared.Joining.{Joining}
 use Rattle.work_sums.specs.declared.Tally.{Tally}
-use Rattle.plan_buffers.specs.Buffers.{patch}
 use Rattle.record_steps.specs.declared.Pauli.{Pauli}
 use Rattle.record_steps.specs.declared.AtRecord.{AtRecord}
 

@@ -3,7 +3,7 @@
 #![tactic(auto)]
 
 ghost use Rattle.std.specs.Prelude.{◌≡◌, ◌+◌, ◌*◌, ◌%◌, ◌^◌, ◌<◌, ◌≤◌, length};
-ghost use Rattle.plan_buffers.specs.Buffers.{patch};
+ghost use Rattle.words.specs.Lists.{patch};
 ghost use Rattle.masks.specs.Positions.{local_of};
 ghost use Rattle.refusals.specs.Answer.{answer_of, given};
 ghost use Rattle.work_sums.specs.Tally.{joining_of};
@@ -65,7 +65,7 @@ fn gather<'a>(
 }
 
 /// The join that a record makes, or none where it makes none, or refusal 11, 12 or 13.
-#[tactic(auto, using(crate::proofs::Patches::patch_none), unfolding(crate::specs::RecordSteps::number_before, crate::specs::RecordSteps::sources_before, masks::specs::Positions::sources_in))]
+#[tactic(auto, using(words::proofs::Patches::patch_none), unfolding(crate::specs::RecordSteps::number_before, crate::specs::RecordSteps::sources_before, masks::specs::Positions::sources_in))]
 pub fn open<'a>(
     instruction: Instruction,
     width: u64,

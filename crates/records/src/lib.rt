@@ -4,13 +4,14 @@
 
 ghost use Rattle.std.specs.Prelude.{◌≡◌, ◌&&◌};
 ghost use Rattle.std.specs.Float.{binary64};
-ghost use Rattle.std.specs.Float.Ieee.{of_bits, to_bits};
+ghost use Rattle.std.specs.Float.Ieee.{of_bits};
 ghost use Rattle.std.specs.Float.Ieee.Scale.{finite};
 ghost use Rattle.refusals.specs.Answer.{number_or_0};
 ghost use Rattle.records.specs.Record.{word_of, record_at, instruction_of, measurement_of};
 ghost use Rattle.records.specs.Pass.{within, within_one, action_number, floats_number, square_sum, sums_to_one, squares_number, rotation_number, promotion_number, measurement_number, number_of, checked_of, record_pass};
 
 use refusals::{Reason, Refusal};
+use words::floats::float_of;
 
 // 1 - 2^-50 by its bits, the eighth float below 1.
 const LEAST_SUM: f64 = f64::from_bits(0x3fef_ffff_ffff_fff8);
@@ -103,28 +104,6 @@ fn word(fields: &[u64], j: usize) -> u64
     ensures { result ≡ word_of fields.now j }
 {
     fields.get(j).copied().unwrap_or(0)
-}
-
-/// The binary64 value that the bits stand for; each NaN pattern is the one NaN.
-pub fn float_of(bits: u64) -> f64
-    ensures { result ≡ of_bits binary64 bits }
-{
-    if 0x7ff0_0000_0000_0000 < bits % 0x8000_0000_0000_0000 {
-        f64::NAN
-    } else {
-        f64::from_bits(bits)
-    }
-}
-
-/// The bits of a float. A NaN has one pattern.
-pub fn float_bits(x: f64) -> u64
-    ensures { result ≡ to_bits binary64 x }
-{
-    if x.is_nan() {
-        0x7ff8_0000_0000_0000
-    } else {
-        x.to_bits()
-    }
 }
 
 // The float of word j of a record.

@@ -8,12 +8,13 @@ use native.Mathlib.Omega.{arith}
 use lib.Dec.{eqb}
 use lib.ListN.{length, get_or}
 use borrow.Author.Tests.{eq-eqb, ne_eqb}
+use Rattle.words.proofs.Numbers.{same_or_not}
 use Rattle.plan_spec.specs.Lists.{without}
 use Rattle.plan_spec.specs.Components.{size_of, largest, sources_of}
 use Rattle.plan_spec.specs.Connectivity.{Member}
 use Rattle.plan_spec.specs.Sources.{Ascending, none, more}
 use Rattle.plan_spec.proofs.Steps.{cond_yes, cond_no}
-use Rattle.plan_spec.proofs.Counting.{same_or_not, member_head, member_tail, member_cons}
+use Rattle.plan_spec.proofs.Counting.{member_head, member_tail, member_cons}
 use Rattle.plan_spec.proofs.Joins.{largest_member}
 use Rattle.plan_spec.proofs.Ascending.{ascending_same, without_from, without_holds, without_ascending, Ahead, largest_ahead}
 use Rattle.masks.specs.Positions.{rank, highest_rank, target_in, least_from, least_in, ascending, sources_in}

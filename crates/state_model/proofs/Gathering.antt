@@ -7,9 +7,10 @@ use Prim.Native.Nat.{ℕ, ◌+◌, ◌<◌, ◌≤◌}
 use native.Mathlib.Omega.{arith}
 use lib.ListN.{length, get_or, set, length-set, length-append, get_or-append}
 use lib.Seq.{get_or-set_same, get_or-set_other, get_or-append-add}
+use Rattle.words.proofs.Numbers.{same_or_not}
 use Rattle.plan_spec.specs.Components.{members_of, size_of, gathered}
 use Rattle.plan_spec.specs.Connectivity.{occurrences, Member, NoRepeats}
-use Rattle.plan_spec.proofs.Counting.{same_or_not, one_here, none_here, member_head, member_tail, member_cons}
+use Rattle.plan_spec.proofs.Counting.{one_here, none_here, member_head, member_tail, member_cons}
 use Rattle.state.specs.Steps.{Gathering, gather_from}
 
 once_head : (s : ℕ) (ss : List ℕ) → NoRepeats (s ∷ ss) → occurrences s ss ≡ 0

@@ -10,11 +10,12 @@ use lib.Dec.{ltb}
 use lib.ListN.{length, get_or, take, drop, set, replicate, length-set, length-append, length-drop, length-map, length-replicate, get_or-append, get_or-map}
 use lib.Seq.{get_or-set_same, get_or-set_other, get_or-append-add, get_or-take, get_or-drop, length-take-le, ext_get_or}
 use borrow.Author.Tests.{ne_eqb, ltb-true, ltb-false}
+use Rattle.words.proofs.Numbers.{same_or_not}
 use Rattle.plan_spec.specs.Lists.{place_of}
 use Rattle.plan_spec.specs.Plan.{groups_of}
 use Rattle.plan_spec.specs.Components.{members_of, size_of}
 use Rattle.plan_spec.specs.Connectivity.{Member, NoRepeats, ActiveOrder}
-use Rattle.plan_spec.proofs.Counting.{same_or_not, one_here, member_at, place_below, place_holds, occurrences_listed}
+use Rattle.plan_spec.proofs.Counting.{one_here, member_at, place_below, place_holds, occurrences_listed}
 use Rattle.plan_spec.proofs.Invariant.{Holds, listed_active}
 use Rattle.state.specs.declared.State.{State}
 use Rattle.plan_buffers.specs.Buffers.{Counts, counts_from, counts_of, CountsFit, word_at, placed_up_to, PlacesFit}

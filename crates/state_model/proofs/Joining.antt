@@ -9,11 +9,12 @@ use lib.Dec.{eqb}
 use lib.ListN.{length, get_or, set, replicate, length-append, length-replicate, get_or-append}
 use lib.Seq.{get_or-set_same, get_or-set_other}
 use borrow.Author.Tests.{eq-eqb, ne_eqb}
+use Rattle.words.proofs.Numbers.{same_or_not}
 use Rattle.plan_spec.specs.Lists.{concat}
 use Rattle.plan_spec.specs.Components.{members_of, size_of, gathered, emptied, joined}
 use Rattle.plan_spec.specs.Connectivity.{occurrences, Member, NoRepeats}
 use Rattle.plan_spec.proofs.Steps.{cond_yes, cond_no}
-use Rattle.plan_spec.proofs.Counting.{same_or_not, one_here, none_here, member_or_not, member_head, member_tail}
+use Rattle.plan_spec.proofs.Counting.{one_here, none_here, member_or_not, member_head, member_tail}
 use Rattle.plan_spec.proofs.Joins.{length_emptied, emptied_in, emptied_out, length_joined}
 use Rattle.state.specs.declared.State.{State}
 use Rattle.state.specs.Steps.{Gathering, gather_from, gathering, rise_at, Joinable, BeforeJoin, Joined}

@@ -12,12 +12,13 @@ use lib.Pow.{pow_pos}
 use lib.Bits.{bit_or, or_step, or_shr}
 use lib.ListN.{length, get_or}
 use borrow.Author.Tests.{eq-eqb, ne_eqb}
+use Rattle.words.proofs.Numbers.{same_or_not}
 use Rattle.kernels.specs.Bits.{bit_at}
 use Rattle.plan_spec.specs.Lists.{is_in, place_of}
 use Rattle.plan_spec.specs.Components.{members_of, local_mask}
 use Rattle.plan_spec.specs.Connectivity.{Member, NoRepeats, ActiveOrder}
 use Rattle.plan_spec.proofs.Steps.{cond_no}
-use Rattle.plan_spec.proofs.Counting.{same_or_not, member_or_not, member_head, member_tail, member_at, member_is_in, absent_is_in, place_below, place_holds, occurrences_listed}
+use Rattle.plan_spec.proofs.Counting.{member_or_not, member_head, member_tail, member_at, member_is_in, absent_is_in, place_below, place_holds, occurrences_listed}
 use Rattle.plan_spec.proofs.Invariant.{Holds, listed_active}
 use Rattle.plan_spec.proofs.LocalBits.{bit_half, bit_lowest}
 use Rattle.state.specs.declared.State.{State}

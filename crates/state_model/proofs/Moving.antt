@@ -10,11 +10,13 @@ use lib.Dec.{eqb, ltb}
 use lib.ListN.{length, get_or, set, length-set, length-append, length-map, get_or-append}
 use lib.Seq.{get_or-set_same, get_or-set_other, get_or-append_seam}
 use borrow.Author.Tests.{eq-eqb, ne_eqb, lt-ltb, le-ltb, ltb-true, ltb-false}
-use Rattle.plan_spec.specs.Lists.{remove_at, numbers_from}
+use Rattle.words.specs.Lists.{numbers_from}
+use Rattle.words.proofs.Numbers.{same_or_not, length-numbers, numbers_at}
+use Rattle.plan_spec.specs.Lists.{remove_at}
 use Rattle.plan_spec.specs.Components.{members_of, size_of}
 use Rattle.plan_spec.specs.Connectivity.{Member, NoRepeats}
 use Rattle.plan_spec.proofs.Steps.{cond_yes, cond_no}
-use Rattle.plan_spec.proofs.Counting.{same_or_not, one_here, member_at, length_remove_at, length-numbers, numbers_at}
+use Rattle.plan_spec.proofs.Counting.{one_here, member_at, length_remove_at}
 use Rattle.state.specs.declared.State.{State}
 use Rattle.state.specs.Steps.{InOrder, Closed, Started, promoted, skip, lowered, BeforeRemoval, Removed}
 use Rattle.state.proofs.Numbers.{skip_near, skip_before, skip_behind}

@@ -13,11 +13,11 @@ use lib.Pow.{pow_pos, pow_mono}
 use lib.ListN.{length, get_or, take}
 use lib.Bits.{bit_or, or_step, or_lt}
 use borrow.Author.Tests.{eq-eqb, ne_eqb}
+use Rattle.words.proofs.Numbers.{same_or_not}
 use Rattle.kernels.specs.Bits.{bit_at}
 use Rattle.plan_spec.specs.Components.{support, or_first, reached}
 use Rattle.plan_spec.specs.Connectivity.{Member}
 use Rattle.plan_spec.proofs.Steps.{cond_yes, cond_no}
-use Rattle.plan_spec.proofs.Counting.{same_or_not}
 use Rattle.plan_spec.proofs.LocalBits.{bit_half, bit_lowest, support_at, at_support}
 use Rattle.plan_spec.proofs.Invariant.{anchored_cases}
 use Rattle.masks.specs.Positions.{picked, reached_mask}

@@ -8,8 +8,10 @@ use Prim.Native.Nat.{ℕ, ◌+◌, ◌*◌, ◌/◌, ◌≤◌, ◌<◌}
 use native.Mathlib.Omega.{arith}
 use lib.ListN.{length}
 use borrow.Author.Tests.{lt-ltb, le-ltb}
+use Rattle.words.specs.Lists.{padded}
+use Rattle.words.proofs.Padded.{front_of_padded}
 use Rattle.records.specs.declared.Head.{Head}
-use Rattle.plan_spec.specs.Plan.{Lengths, Plan, Result, planned, refused_at, refuse_all, plan_of, padded}
+use Rattle.plan_spec.specs.Plan.{Lengths, Plan, Result, planned, refused_at, refuse_all, plan_of}
 use Rattle.plan_spec.proofs.Room.{plan_fits_in}
 use Rattle.plan_spec.proofs.Words.{plan_counts}
 use Rattle.plan_buffers.specs.declared.WordCounts.{WordCounts}
@@ -21,7 +23,6 @@ use Rattle.plan_buffers.specs.SevenBuffers.{Buffers, lengths_of, SameLengths, pa
 use Rattle.answer.specs.declared.ActiveComponentPlan.{ActiveComponentPlan}
 use Rattle.answer.specs.Outcome.{outcome_of, used_in}
 use Rattle.component_plan.specs.Answer.{Answers}
-use Rattle.component_plan.proofs.Filled.{front_of_padded}
 use Rattle.component_plan.proofs.Refusals.{away, zeros_held}
 use Rattle.stored_plan.specs.Stored.{Kept, scalars_of, kept_of, bytes_of, file_of}
 use Rattle.plan_file.specs.Writing.{scalars_in, words_for}

@@ -7,10 +7,11 @@ use Prim.Native.Nat.{ℕ, ◌^◌, ◌<◌}
 use native.Mathlib.Omega.{arith}
 use lib.Dec.{ltb}
 use lib.ListN.{length, take}
+use Rattle.words.specs.Lists.{padded}
+use Rattle.words.proofs.Padded.{front_of_padded}
 use Rattle.records.specs.declared.Head.{Head}
-use Rattle.plan_spec.specs.Plan.{Plan, Result, planned, refused_at, refuse_all, plan_of, padded}
+use Rattle.plan_spec.specs.Plan.{Plan, Result, planned, refused_at, refuse_all, plan_of}
 use Rattle.plan_buffers.specs.SevenBuffers.{Buffers, lengths_of}
-use Rattle.component_plan.proofs.Filled.{front_of_padded}
 use Rattle.stored_plan.specs.Stored.{kept_of, file_of}
 use Rattle.stored_plan.specs.Reading.{Read, restored, trailer_word, read_file}
 use Rattle.plan_buffers.specs.SixOutputs.{Outputs, word_counts_of}

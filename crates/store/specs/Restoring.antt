@@ -1,7 +1,8 @@
 -- What is said of a call of `load` with the file that a call of `store` has left: 02, CR 2,
 -- "reading a written plan restores these fields and every row".
 use Rattle.std.specs.Prelude.{ℕ, ◌≡◌, List, length, take, Result as Answered}
-use Rattle.plan_spec.specs.Plan.{Plan, padded}
+use Rattle.words.specs.Lists.{padded}
+use Rattle.plan_spec.specs.Plan.{Plan}
 use Rattle.stored_plan.specs.Stored.{kept_of, scalars_of, file_of}
 use Rattle.stored_plan.specs.Reading.{trailer_word, counts_of}
 use Rattle.plan_buffers.specs.SixOutputs.{Outputs, word_counts_of}

@@ -1,10 +1,11 @@
 -- What the contract of `store` says: its answer, the seven buffers and every byte of the file.
 -- Written from 02, CR 2.
 use Rattle.std.specs.Prelude.{ℕ, ◌≡◌, ◌≤◌, List, [], length, take, Result as Answered, Ok, Err, nat_lt}
+use Rattle.words.specs.Lists.{padded}
 use Rattle.refusals.specs.Numbers.{number_of}
 use Rattle.refusals.specs.declared.Refusal.{Refusal}
 use Rattle.records.specs.declared.Head.{Head}
-use Rattle.plan_spec.specs.Plan.{Lengths, Result, planned, refused_at, refuse_all, plan_of, padded}
+use Rattle.plan_spec.specs.Plan.{Lengths, Result, planned, refused_at, refuse_all, plan_of}
 use Rattle.plan_buffers.specs.SevenBuffers.{Buffers, lengths_of, Held}
 use Rattle.plan_buffers.specs.declared.WordCounts.{WordCounts}
 use Rattle.plan_buffers.specs.SixOutputs.{Outputs}

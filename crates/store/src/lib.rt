@@ -3,7 +3,7 @@
 #![tactic(auto)]
 
 ghost use Rattle.std.specs.Prelude.{◌≡◌, ◌*◌, ◌≤◌, length};
-ghost use Rattle.plan_spec.specs.Plan.{padded};
+ghost use Rattle.words.specs.Lists.{padded};
 ghost use Rattle.plan_buffers.specs.SevenBuffers.{buffers_of};
 ghost use Rattle.plan_buffers.specs.SixOutputs.{outputs_of, SameOutputs};
 ghost use Rattle.stored_plan.specs.Stored.{bytes_of};
@@ -13,11 +13,11 @@ ghost use Rattle.store.specs.Storing.{UsedInside, used_of, Stores};
 use answer::ActiveComponentPlan;
 use component_plan::build_active_component_plan;
 use plan_buffers::StoredOutputs;
-use plan_buffers::buffers::fill_from;
 use plan_buffers::seven::clear_all;
 use plan_file::{Sections, word_count, write_file};
 use records::Head;
 use refusals::{Reason, Refusal};
+use words::filling::fill_from;
 
 // Writes the file of a plan from the words that it uses of the outputs, and zeros behind it.
 fn write_used(plan: ActiveComponentPlan, out: &StoredOutputs, file: &mut [u8])

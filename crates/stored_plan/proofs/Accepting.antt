@@ -9,11 +9,11 @@ use lib.Dec.{eqb}
 use lib.ListN.{length, get_or}
 use Rattle.std.proofs.Common.{rules}
 use Rattle.std.proofs.lemmas.Grind.{common_steps}
-use Rattle.plan_spec.specs.Lists.{numbers_from}
+use Rattle.words.specs.Lists.{numbers_from}
+use Rattle.words.specs.File.{word_at, words_at}
+use Rattle.words.proofs.Bytes.{length_words}
 use Rattle.plan_buffers.specs.declared.WordCounts.{WordCounts}
 use Rattle.plan_buffers.specs.SixOutputs.{outputs_short}
-use Rattle.file_words.specs.Words.{word_at, words_at}
-use Rattle.file_words.proofs.Bytes.{length_words}
 use Rattle.stored_plan.specs.Stored.{Kept}
 use Rattle.stored_plan.specs.Reading.{Read, restored, refused, trailer_at, trailer_word, file_refused, kept_in, touch, counts_of, odd_counts, counts_refused, read_file}
 use Rattle.stored_plan.specs.Loading.{number_of, trailer_in, counts_in}

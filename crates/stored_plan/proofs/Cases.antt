@@ -3,9 +3,9 @@ use mathlib.Core.Path.{◌≡◌, refl}
 use mathlib.Core.List.{List, [], ◌∷◌, ◌++◌, map}
 use Prim.Native.Nat.{ℕ, ◌+◌, ◌-◌, ◌*◌, ◌^◌}
 use lib.ListN.{take, set}
+use Rattle.words.specs.File.{word_bytes}
 use Rattle.plan_spec.specs.Plan.{Result, planned, refused_at, plan_of}
 use Rattle.plan_buffers.specs.declared.WordCounts.{WordCounts}
-use Rattle.file_words.specs.Words.{word_bytes}
 use Rattle.stored_plan.specs.Stored.{file_of}
 use Rattle.stored_plan.specs.Reading.{Read, restored, refused, read_file}
 use Rattle.stored_plan.specs.Loading.{number_of}

@@ -10,15 +10,15 @@ use lib.ListN.{length, get_or, length-append}
 use lib.Ieee.{Float, binary64, fits, of_bits}
 use lib.Ieee.Bits.{of_bits-to_bits}
 use borrow.Author.Tests.{eq-eqb, le-ltb}
+use Rattle.words.specs.Words.{flag_word, bits_word, Words}
+use Rattle.words.proofs.Words.{words_append, flag_word_lem}
+use Rattle.words.proofs.Bytes.{length_bytes}
 use Rattle.records.specs.declared.Head.{Head}
 use Rattle.plan_spec.specs.Lists.{concat}
-use Rattle.plan_spec.specs.Walk.{flag_word, bits_word}
 use Rattle.plan_spec.specs.Plan.{Lengths, Plan, planned, plan_of}
-use Rattle.plan_spec.specs.Laws.{Words}
-use Rattle.plan_spec.proofs.Words.{words_append, flag_word_lem, plan_words, works_fit, plan_counts}
+use Rattle.plan_spec.proofs.Words.{plan_words, works_fit, plan_counts}
 use Rattle.plan_buffers.specs.declared.WordCounts.{WordCounts}
 use Rattle.plan_buffers.specs.SixOutputs.{outputs_short}
-use Rattle.file_words.proofs.Bytes.{length_bytes}
 use Rattle.stored_plan.specs.Stored.{Kept, kept_of, scalars_of, sections_of, trailer_of, words_of, file_of}
 use Rattle.stored_plan.specs.Reading.{restored, trailer_word, counts_of, odd_counts, counts_refused, read_file}
 use Rattle.stored_plan.specs.Laws.{LongEnough, SamePlan}

@@ -11,13 +11,13 @@ use lib.Dec.{eqb}
 use lib.ListN.{length, get_or, take, drop, length-append}
 use lib.Seq.{take_at, drop_at, take_all, drop-drop, get_or-append-add}
 use borrow.Author.Tests.{eqb-true, eq-eqb, le-ltb}
-use Rattle.plan_spec.specs.Lists.{concat, numbers_from}
-use Rattle.plan_spec.specs.Laws.{Words}
+use Rattle.words.specs.Lists.{numbers_from}
+use Rattle.words.specs.Words.{Words, Bytes}
+use Rattle.words.specs.File.{word_bytes, word_at, words_at}
+use Rattle.words.proofs.Bytes.{length_bytes, length_words, words_are}
+use Rattle.words.proofs.Back.{word_back, words_back, file_back}
+use Rattle.plan_spec.specs.Lists.{concat}
 use Rattle.plan_buffers.specs.declared.WordCounts.{WordCounts}
-use Rattle.file_words.specs.Words.{word_bytes, word_at, words_at}
-use Rattle.file_words.specs.Laws.{Bytes}
-use Rattle.file_words.proofs.Bytes.{length_bytes, length_words, words_are}
-use Rattle.file_words.proofs.Back.{word_back, words_back, file_back}
 use Rattle.stored_plan.specs.Stored.{Kept, sections_of, pointers_from, trailer_of, words_of, bytes_of}
 use Rattle.stored_plan.specs.Reading.{restored, trailer_at, trailer_word, file_refused, kept_in, touch, places_refused, counts_refused, read_file}
 use Rattle.stored_plan.specs.Loading.{number_of}

@@ -8,7 +8,7 @@ use Prim.Native.Nat.{ℕ, suc, ◌+◌, ◌-◌, ◌*◌, ◌<◌}
 use native.Mathlib.Omega.{arith}
 use lib.Dec.{eqb}
 use borrow.Author.Tests.{eqb-true, eq-eqb, ne_eqb}
-use Rattle.plan_spec.specs.Lists.{numbers_from}
+use Rattle.words.specs.Lists.{numbers_from}
 use Rattle.stored_plan.specs.Reading.{touch}
 
 -- ---- one pair

@@ -1,7 +1,6 @@
 -- What the contract of `load` says: its answer, and the six outputs, for what reading the file gives.
 use Rattle.std.specs.Prelude.{ℕ, ◌+◌, ◌*◌, ◌≤◌, ◌≡◌, List, [], ◌∷◌, map, length, get_or, Result, Ok, Err}
-use Rattle.plan_spec.specs.Lists.{numbers_from}
-use Rattle.plan_spec.specs.Plan.{padded}
+use Rattle.words.specs.Lists.{numbers_from, padded}
 use Rattle.plan_buffers.specs.declared.WordCounts.{WordCounts}
 use Rattle.stored_plan.specs.Stored.{trailer_words, Kept}
 use Rattle.plan_buffers.specs.SixOutputs.{Outputs, word_counts_of}

@@ -1,11 +1,11 @@
 -- What reading any list of bytes gives: refusals 21, 22 and 23 in this order, and else the sections. Written from 02, CR 2: "Reading looks at the trailer and
 -- component_count only and hands every other word back unjudged".
 use Rattle.std.specs.Prelude.{if◌then◌else◌, ℕ, ◌+◌, ◌-◌, ◌*◌, ◌/◌, ◌%◌, List, [], ◌∷◌, map, Bool, true, false, not, ◌&&◌, ◌||◌, length, get_or, nat_lt, ◌==◌}
+use Rattle.words.specs.Lists.{numbers_from}
+use Rattle.words.specs.File.{word_at, words_at}
 use Rattle.plan_spec.specs.Rows.{measurement_words, rotation_words, step_words}
-use Rattle.plan_spec.specs.Lists.{numbers_from}
 use Rattle.plan_buffers.specs.declared.WordCounts.{WordCounts}
 use Rattle.plan_buffers.specs.SixOutputs.{outputs_short}
-use Rattle.file_words.specs.Words.{word_at, words_at}
 use Rattle.stored_plan.specs.Stored.{file_version, trailer_words, Kept}
 
 pub data Read : Type 0 where

@@ -1,9 +1,9 @@
 -- The file of a plan. Written from 02, CR 2.
 use Rattle.std.specs.Prelude.{ℕ, ◌+◌, ◌*◌, List, [], ◌∷◌, ◌++◌, length}
+use Rattle.words.specs.Words.{flag_word, bits_word}
+use Rattle.words.specs.File.{word_bytes}
 use Rattle.plan_spec.specs.Lists.{concat}
-use Rattle.plan_spec.specs.Walk.{flag_word, bits_word}
 use Rattle.plan_spec.specs.Plan.{Plan}
-use Rattle.file_words.specs.Words.{word_bytes}
 
 -- what a file keeps of a plan, section by section, in the file's order
 pub record Kept : Type 0 where

@@ -3,17 +3,17 @@
 #![tactic(auto)]
 
 ghost use Rattle.std.specs.Prelude.{◌≡◌, if◌then◌else◌, ◌+◌, ◌*◌, ◌≤◌, length, IfOk};
-ghost use Rattle.plan_spec.specs.Plan.{padded};
-ghost use Rattle.file_words.specs.Words.{words_at};
+ghost use Rattle.words.specs.Lists.{padded};
+ghost use Rattle.words.specs.File.{words_at};
 ghost use Rattle.plan_buffers.specs.SixOutputs.{outputs_of, SameOutputs};
 ghost use Rattle.stored_plan.specs.Reading.{file_refused, touch, odd_counts, read_file};
 ghost use Rattle.refusals.specs.Answer.{number_or_0};
 ghost use Rattle.stored_plan.specs.Loading.{Loads, number_of, scalar_list, trailer_in, pointers_in, counts_in};
 
-use file_words::{get_words, word_at};
-use plan_buffers::buffers::fill_from;
 use plan_buffers::{MEASUREMENT_WORDS, ROTATION_WORDS, StoredOutputs, WordCounts};
 use refusals::Reason;
+use words::file::{get_words, word_at};
+use words::filling::fill_from;
 
 /// The words of the eight scalar fields, as a file has them.
 #[derive(Clone, Copy, Debug, PartialEq, Eq)]

@@ -2,7 +2,7 @@
 #![tactic(auto)]
 
 ghost use Rattle.std.specs.Prelude.{◌≡◌, ◌≤◌, true, length, IfOk};
-ghost use Rattle.plan_spec.specs.Plan.{padded};
+ghost use Rattle.words.specs.Lists.{padded};
 
 use std::alloc::{AllocError, Global};
 use std::io::{ErrorKind, Read};

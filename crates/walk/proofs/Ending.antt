@@ -6,16 +6,15 @@ use mathlib.Core.List.{List, ◌++◌}
 use Prim.Native.Nat.{ℕ, ◌*◌, ◌/◌, ◌≤◌}
 use native.Mathlib.Omega.{arith}
 use lib.ListN.{length, take, drop, replicate, drop_of_length-le}
-use lib.Seq.{take-append_seam}
+use Rattle.words.specs.Lists.{numbers_from}
+use Rattle.words.proofs.Numbers.{length-numbers}
 use Rattle.records.specs.Record.{instructions_of}
 use Rattle.records.specs.declared.Instruction.{Instruction}
 use Rattle.records.proofs.Laws.{instructions_length}
-use Rattle.plan_spec.specs.Lists.{numbers_from}
 use Rattle.plan_spec.specs.Components.{live_dimension}
 use Rattle.plan_spec.specs.Walk.{Walk, start, walk_from, Walked, finished}
 use Rattle.plan_spec.specs.Plan.{groups_of, buffers_refused}
 use Rattle.plan_spec.specs.Connectivity.{active_start, active_after}
-use Rattle.plan_spec.proofs.Counting.{length-numbers}
 use Rattle.plan_spec.proofs.Steps.{done}
 use Rattle.plan_spec.proofs.Tracking.{active_of, tracked_here}
 use Rattle.plan_spec.proofs.Room.{enough, alone_live}
@@ -63,12 +62,12 @@ reached_start limit k is s c sizes st e = record {
     measurements = refl;
     quantum = refl;
   };
-  steps_begin = refl;
-  merges_begin = refl;
-  sizes_begin = ap (take (length (replicate {A = ℕ} k 1))) e ∙ take-append_seam (replicate {A = ℕ} k 1) (drop k sizes);
-  rotations_begin = refl;
-  promotions_begin = refl;
-  measurements_begin = refl;
+  steps_begin = (c.steps, refl);
+  merges_begin = (c.merges, refl);
+  sizes_begin = (drop k sizes, e);
+  rotations_begin = (c.rotations, refl);
+  promotions_begin = (c.promotions, refl);
+  measurements_begin = (c.measurements, refl);
 }
 
 -- ---- the end
@@ -126,6 +125,5 @@ module _ (limit k : ℕ) (ws : List ℕ) (b : Buffers) (ok : Walkable k ws b) (i
         rotations = at.rotations_begin;
         promotions = at.promotions_begin;
         measurements = at.measurements_begin;
-        groups = ap (take (length (groups_of w.components))) (g ∙ groups_here.words)
-            ∙ take-append_seam (groups_of w.components) (drop (length (groups_of w.components)) c.groups);
+        groups = (drop (length (groups_of w.components)) c.groups, g ∙ groups_here.words);
       })

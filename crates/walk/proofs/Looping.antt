@@ -7,7 +7,11 @@ use mathlib.Core.List.{List, [], ◌∷◌, ◌++◌}
 use Prim.Native.Nat.{ℕ, ◌+◌, ◌*◌, ◌/◌, ◌^◌, ◌≤◌, ◌<◌}
 use native.Mathlib.Omega.{arith}
 use lib.Ieee.{Float}
-use lib.ListN.{length, get_or, set, take, drop, replicate, length-take}
+use lib.ListN.{length, get_or, set, take, drop, replicate}
+use Rattle.words.specs.Lists.{patch, Begins}
+use Rattle.words.proofs.Patches.{begins_length}
+use Rattle.words.proofs.Numbers.{same_or_not}
+use Rattle.words.proofs.Patches.{patch_none}
 use Rattle.refusals.specs.Answer.{Answer, given, refused}
 use Rattle.kernels.specs.declared.active.PrecomputedActivePauliRotationKernel.{PrecomputedActivePauliRotationKernel}
 use Rattle.kernels.specs.declared.active.PrecomputedActivePauliMeasurementKernel.{PrecomputedActivePauliMeasurementKernel}
@@ -16,7 +20,6 @@ use Rattle.records.proofs.Laws.{instruction_at}
 use Rattle.records.specs.declared.Instruction.{Instruction}
 use Rattle.records.specs.declared.Instruction.TheVariants.{Rotation, Promotion, RecordMeasurement, RecordDetector, Measurement, Expectation, DormantBranch}
 use Rattle.plan_spec.specs.Lists.{concat}
-use Rattle.plan_spec.proofs.Counting.{same_or_not}
 use Rattle.plan_spec.specs.Walk.{Walk, join_of, no_step, ignored_step, promotion_step, rotation_step, measurement_step, step, start, walk_from, stopped}
 use Rattle.plan_spec.proofs.Room.{width_of}
 use Rattle.state.specs.declared.State.{State}
@@ -24,11 +27,11 @@ use Rattle.work_sums.specs.declared.Tally.{Tally}
 use Rattle.work_sums.specs.declared.Joining.{Joining}
 use Rattle.state.specs.Steps.{InOrder, Closed, Started, Joined, BeforePromotion, promoted, BeforeRemoval, Removed}
 use Rattle.work_sums.specs.Tally.{start_tally, joining_of, ignored_tally}
-use Rattle.plan_buffers.specs.Buffers.{patch, counts_of, CountsFit, placed_up_to, PlacesFit}
+use Rattle.plan_buffers.specs.Buffers.{counts_of, CountsFit, placed_up_to, PlacesFit}
 use Rattle.state_model.specs.Represents.{Ordered, Represents}
 use Rattle.state_model.proofs.Moving.{ordered_start, ordered_promotion, ordered_removal}
 use Rattle.plan_buffers.specs.SevenBuffers.{Buffers, lengths_of, SameLengths}
-use Rattle.walk.specs.Walking.{Begins, WalkEnds, Walkable}
+use Rattle.walk.specs.Walking.{WalkEnds, Walkable}
 use Rattle.walk.specs.Looping.{Reached, Looping, Joins, JoinMade, sources_of, Met}
 use Rattle.record_steps.specs.RecordSteps.{sources_at, GatherFits, number_before, sources_before, WhereJoined, join_before, progress_of, JoinedFits, rotation_answer, RotationDone, measurement_answer, MeasurementDone, PromotionFits, PromotionDone}
 use Rattle.record_steps.specs.declared.AtRecord.{AtRecord}
@@ -39,7 +42,6 @@ use Rattle.walk.proofs.OneRecord as R
 use Rattle.walk.proofs.OneRecord.{pauli_of, angle_of, at_record}
 use Rattle.walk.proofs.Ending as E
 use Rattle.walk.proofs.Ending.{reached_start}
-use Rattle.record_steps.proofs.Patches.{patch_none}
 use Rattle.walk.proofs.Making.{some_join, no_join}
 use Rattle.record_steps.proofs.Openings.{rotation_empty}
 
@@ -109,8 +111,7 @@ module _ {limit k : ℕ} {ws : List ℕ} {i : ℕ} {o : List ℕ} {s : State} {t
   merges_inside : t.merges ≤ length c.merges
   merges_inside =
       let e = lo.at.sums.merges in
-      let f = ap length lo.at.merges_begin in
-      let l = length-take (length lo.w.written.merges) c.merges in omega arith
+      let f = begins_length lo.w.written.merges c.merges lo.at.merges_begin in omega arith
 
   -- what the join asks
   pub join_asks : Joins s x t.merges (length c.merges)

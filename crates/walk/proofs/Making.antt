@@ -6,13 +6,13 @@ use mathlib.Core.List.{List, [], ◌∷◌, ◌++◌}
 use Prim.Native.Nat.{ℕ, ◌+◌, ◌-◌, ◌≤◌, ◌<◌}
 use native.Mathlib.Omega.{arith}
 use lib.ListN.{length, take, drop, length-append, length-take}
+use Rattle.words.specs.Lists.{patch}
+use Rattle.words.proofs.Patches.{part_of_patch}
 use Rattle.records.specs.declared.Instruction.{Instruction}
 use Rattle.state.specs.declared.State.{State}
 use Rattle.work_sums.specs.declared.Joining.{Joining}
 use Rattle.work_sums.specs.Tally.{joining_of}
-use Rattle.plan_buffers.specs.Buffers.{patch}
 use Rattle.record_steps.specs.RecordSteps.{join_before, Opened}
-use Rattle.record_steps.proofs.Patches.{part_of_patch}
 use Rattle.walk.specs.Looping.{sources_of, Joins}
 
 -- a join is that of the sources, and there are some

@@ -13,6 +13,9 @@ use lib.IntN.{pos}
 use lib.Ieee.{Float, fin, binary64, add, mul}
 use lib.ListN.{length, get_or, set, take, length-append}
 use borrow.Author.Tests.{eq-eqb, ne_eqb, le-leb, lt-leb, leb-false, eqb-true, eqb-false}
+use Rattle.words.specs.Lists.{patch, Begins}
+use Rattle.words.proofs.Numbers.{same_or_not}
+use Rattle.words.proofs.Patches.{begins_patch, begins_more, begins_set, begins_at}
 use Rattle.kernels.specs.Bits.{exp2}
 use Rattle.refusals.specs.Answer.{Answer, given, refused}
 use Rattle.kernels.specs.Active.{action, rotation, measurement}
@@ -26,7 +29,7 @@ use Rattle.plan_spec.specs.Lists.{concat, remove_at}
 use Rattle.plan_spec.specs.Components.{members_of, size_of, amplitudes, joining_cost, live_dimension, local_mask, float_two}
 use Rattle.plan_spec.specs.Walk.{Walk, Join, join_of, local_action, when_given, no_step, ignored_step, promotion_step, rotation_step, measurement_step, step, start, walk_from, stopped, rotation_row, measurement_row}
 use Rattle.plan_spec.specs.Connectivity.{NoRepeats, ActiveOrder, active_start, active_after}
-use Rattle.plan_spec.proofs.Counting.{same_or_not, length_remove_at}
+use Rattle.plan_spec.proofs.Counting.{length_remove_at}
 use Rattle.plan_spec.proofs.Steps.{cond_yes, cond_no}
 use Rattle.plan_spec.proofs.Growth.{row_count, length_concat}
 use Rattle.plan_spec.proofs.Tracking.{Tracked, tracked_here, target_below, target_members, join_length, join_peak_is, measurement_keeps}
@@ -40,19 +43,18 @@ use Rattle.masks.specs.Positions.{local_of}
 use Rattle.state.specs.Steps.{BeforeJoin, BeforePromotion, promoted, BeforeRemoval, Removed}
 use Rattle.work_sums.specs.Tally.{powers, power_left, joining_of, Countable, JoinFits, ignored_tally, joined_tally, rotated_tally, promoted_tally, measured_tally}
 use Rattle.work_sums.proofs.Sums.{left_below, kept_sum, kept_joined}
-use Rattle.plan_buffers.specs.Buffers.{patch}
 use Rattle.state_model.specs.Represents.{Represents}
 use Rattle.state_model.proofs.Moving.{represents_promotion, before_removal, represents_removal}
 use Rattle.state_model.proofs.Sums.{live_removal, live_promotion}
 use Rattle.plan_buffers.specs.SevenBuffers.{Buffers, SameLengths, lengths_of}
-use Rattle.walk.specs.Walking.{Begins, Tallied, Walkable}
+use Rattle.walk.specs.Walking.{Tallied, Walkable}
 use Rattle.walk.specs.Looping.{Reached}
 use Rattle.record_steps.specs.RecordSteps.{raised, sources_at, GatherFits, number_before, sources_before, WhereJoined, progress_of, local_action_of, JoinedFits, rotation_answer, RotationDone, measurement_answer, MeasurementDone, PromotionFits, PromotionDone}
 use Rattle.record_steps.specs.declared.Pauli.{Pauli}
 use Rattle.record_steps.specs.declared.AtRecord.{AtRecord}
 use Rattle.walk.proofs.Reaching.{few_records, tracked, width_next, made, made_next, kept, live_small, quantum_small, steps_written, rows_written, rotations_wide, measurements_wide, run_next, stops}
 use Rattle.walk.proofs.Joining as J
-use Rattle.walk.proofs.Filling.{begins_patch, begins_more, begins_set, begins_at, begins_row}
+use Rattle.walk.proofs.Filling.{begins_row}
 use Rattle.walk.proofs.Stepping.{refused_before, ignores, rotates, measures}
 
 -- a record's Pauli, its angle, and where it stands

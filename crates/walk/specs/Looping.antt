@@ -3,6 +3,7 @@
 -- records, from which the definition's walk goes on to the same end.
 use Rattle.std.specs.Prelude.{ℕ, ◌+◌, ◌/◌, ◌<◌, ◌≤◌, ◌≡◌, List, length, take, drop, Option, Result, Ok, Err}
 use mathlib.Core.Logic.{◌⊎◌}
+use Rattle.words.specs.Lists.{Begins}
 use Rattle.refusals.specs.Numbers.{number_of}
 use Rattle.refusals.specs.declared.Reason.{Reason}
 use Rattle.records.specs.Record.{instructions_of}
@@ -22,7 +23,7 @@ use Rattle.record_steps.specs.RecordSteps.{sources_at, GatherFits, sources_befor
 use Rattle.record_steps.specs.declared.Pauli.{Pauli}
 use Rattle.record_steps.specs.declared.AtRecord.{AtRecord}
 use Rattle.plan_buffers.specs.SevenBuffers.{Buffers, SameLengths}
-use Rattle.walk.specs.Walking.{Begins, Tallied, Walkable}
+use Rattle.walk.specs.Walking.{Tallied, Walkable}
 
 -- ---- the loop
 

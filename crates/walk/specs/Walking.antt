@@ -1,6 +1,7 @@
 -- What the contract of `walk` says: it stops where the definition's walk stops, or leaves in
 -- front of each buffer what the definition's walk has written.
-use Rattle.std.specs.Prelude.{ℕ, ◌/◌, ◌%◌, ◌^◌, ◌≤◌, ◌≡◌, List, false, length, take, Result, Ok, Err}
+use Rattle.std.specs.Prelude.{ℕ, ◌/◌, ◌%◌, ◌^◌, ◌≤◌, ◌≡◌, List, false, length, Result, Ok, Err}
+use Rattle.words.specs.Lists.{Begins}
 use Rattle.refusals.specs.Numbers.{number_of}
 use Rattle.refusals.specs.declared.Refusal.{Refusal}
 use Rattle.records.specs.Pass.{Passed, record_pass}
@@ -11,10 +12,6 @@ use Rattle.plan_spec.specs.Plan.{groups_of, words_refused, buffers_refused}
 use Rattle.work_sums.specs.declared.Tally.{Tally}
 use Rattle.plan_buffers.specs.SevenBuffers.{Buffers, lengths_of}
 use Rattle.walk.specs.declared.Summary.{Summary}
-
--- the words stand in front
-abbrev pub Begins : List ℕ → List ℕ → Type 0
-Begins words buffer = take (length words) buffer ≡ words
 
 -- the sums and counts are those of the walk's state; the whole works modulo 2 ^ 64
 pub record Tallied (t : Tally) (w : Walk) : Type 0 where

@@ -3,12 +3,12 @@
 #![tactic(auto)]
 
 ghost use Rattle.std.specs.Prelude.{◌≡◌, ◌+◌, ◌*◌, ◌<◌, ◌≤◌, ℕ, List, [], ◌∷◌, length, set};
+ghost use Rattle.words.specs.Lists.{patch};
 ghost use Rattle.records.specs.Record.{instructions_of};
 ghost use Rattle.plan_spec.specs.Rows.{measurement_words, rotation_words};
 ghost use Rattle.plan_spec.specs.Walk.{start, walk_from};
 ghost use Rattle.plan_buffers.specs.SevenBuffers.{buffers_of};
 ghost use Rattle.plan_buffers.specs.SixOutputs.{SameOutputs};
-ghost use Rattle.plan_buffers.specs.Buffers.{patch};
 ghost use Rattle.plan_rows.specs.Steps.{kind_number};
 ghost use Rattle.record_steps.specs.RecordSteps.{Settled, JoinedFits, rotation_answer, RotationDone, MeasurementDone, PromotionFits, PromotionDone};
 ghost use Rattle.state.specs.Steps.{BeforeJoin, Joined, BeforePromotion, promoted, BeforeRemoval, Removed};
@@ -17,12 +17,13 @@ ghost use Rattle.walk.specs.Looping.{Looping, Standing, StepEnds, Joins, JoinMad
 
 use kernels::active::Angle;
 use plan_buffers::StoredOutputs;
-use plan_buffers::buffers::{fill_ones, write_counts, write_members};
+use plan_buffers::buffers::{write_counts, write_members};
 use plan_rows::{Step, StepKind, put};
 use record_steps::{AtRecord, Pauli, measure, open, promote, rotate};
 use records::{Instruction, read};
 use refusals::{Reason, Refusal};
 use state::{State, append, close_gap, first_order};
+use words::filling::fill_ones;
 use work_sums::{Joining, Tally};
 
 /// What a finished walk leaves beside the buffers: the sums, how many components were made, and

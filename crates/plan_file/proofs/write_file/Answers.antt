@@ -4,9 +4,8 @@ use mathlib.Core.List.{List, ◌++◌}
 use Prim.Native.Nat.{ℕ, ◌+◌, ◌-◌, ◌*◌}
 use native.Mathlib.Omega.{arith}
 use lib.ListN.{length, take, replicate}
-use Rattle.plan_spec.specs.Plan.{padded}
-use Rattle.plan_buffers.specs.Buffers.{patch}
-use Rattle.file_words.specs.Words.{word_bytes}
+use Rattle.words.specs.Lists.{padded, patch}
+use Rattle.words.specs.File.{word_bytes}
 use Rattle.stored_plan.specs.Stored.{Kept, sections_of, trailer_of}
 use Rattle.plan_file.specs.Writing.{words_in, kept_in, scalars_in}
 use Rattle.plan_file.proofs.Writing.{none_written, section_written, rest_cleared, trailer_is, words_written}

@@ -1,7 +1,7 @@
 -- `plan_rows::write_head` meets its contract: each of the eleven words is the definition's by what
 -- the callees ensure.
+use Rattle.words.proofs.Words.{flag_is}
 use Rattle.plan_spec.specs.Walk.{row_head}
-use Rattle.plan_rows.proofs.Words.{flag_is}
 use Rattle.plan_rows.proofs.write_head.Goals as goal
 
 pub returns : goal.returns

@@ -1,8 +1,8 @@
 -- `record_steps::open` meets its contract. Refusal 11 is given by hand so that a wrong number is named.
 use mathlib.Core.Path.{◌≡◌}
 use borrow.Author.Tests.{ne_eqb}
+use Rattle.words.proofs.Patches.{patch_none}
 use Rattle.record_steps.specs.RecordSteps.{number_before, sources_before}
-use Rattle.record_steps.proofs.Patches.{patch_none}
 use Rattle.record_steps.proofs.open.Goals as goal
 
 pub returns-then-w-width : goal.returns-then-w-width

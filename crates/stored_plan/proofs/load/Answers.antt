@@ -4,8 +4,8 @@ use mathlib.Core.Path.{◌≡◌, sym, ap, ap₂, ◌∙◌, subst}
 use mathlib.Core.List.{List}
 use native.Mathlib.Omega.{arith}
 use Rattle.std.proofs.Common.{rules, get_or}
-use Rattle.file_words.specs.Words.{words_at}
 use Rattle.std.specs.Prelude.{ℕ}
+use Rattle.words.specs.File.{words_at}
 use Rattle.refusals.proofs.Laws.{positive}
 use Rattle.plan_buffers.specs.declared.WordCounts.{WordCounts}
 use Rattle.plan_buffers.specs.SixOutputs.{Outputs, word_counts_of, outputs_of}

@@ -2,7 +2,7 @@ use mathlib.Core.Path.{◌≡◌}
 use mathlib.Core.List.{map}
 use Prim.Native.Nat.{◌-◌, ◌*◌, ◌≤◌}
 use lib.ListN.{get_or}
-use Rattle.plan_spec.specs.Lists.{numbers_from}
+use Rattle.words.specs.Lists.{numbers_from}
 use Rattle.stored_plan.specs.Reading.{touch}
 use Rattle.stored_plan.proofs.sections_touch.Given as goal
 

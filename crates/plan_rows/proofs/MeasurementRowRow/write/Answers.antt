@@ -1,8 +1,9 @@
 -- `plan_rows::MeasurementRow::write` meets its contract: eight words stand behind the eleven of the
 -- head, and each is the definition's by what the callees ensure.
 use Rattle.std.proofs.Common.{◌∙◌}
+use Rattle.words.proofs.Words.{flag_is}
 use Rattle.plan_spec.specs.Walk.{row_head, measurement_row}
-use Rattle.plan_rows.proofs.Words.{head_length, flag_is, behind}
+use Rattle.plan_rows.proofs.Words.{head_length, behind}
 use Rattle.plan_rows.proofs.MeasurementRowRow.write.Goals as goal
 
 pub returns : goal.returns

@@ -1,7 +1,7 @@
 -- `plan_rows::reading::fill_rotation_rows` meets its contract: each turn puts the next row's struct
 -- in its place, so at the end every struct is filled.
 use Rattle.std.proofs.Common.{length, arith}
-use Rattle.plan_spec.proofs.Filled.{filled_all}
+use Rattle.words.proofs.Filled.{filled_all}
 use Rattle.plan_rows.specs.Reading.{rotation_or_zero}
 use Rattle.plan_rows.proofs.reading.fill_rotation_rows.Goals as goal
 

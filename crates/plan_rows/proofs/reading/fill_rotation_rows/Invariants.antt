@@ -1,6 +1,6 @@
 -- After i turns the first i structs are those of the rows, and the slice is as long as it was.
 use Rattle.std.proofs.Common.{length}
-use Rattle.plan_spec.proofs.Filled.{Filled}
+use Rattle.words.proofs.Filled.{Filled}
 use Rattle.plan_rows.specs.Reading.{rotation_or_zero}
 use Rattle.plan_rows.proofs.reading.fill_rotation_rows.Given as goal
 

@@ -1,8 +1,0 @@
--- The bytes of the words so far stand in the file from the place on, and all else is as it was.
-use Rattle.std.proofs.Common.{◌≡◌, ◌*◌, take}
-use Rattle.plan_buffers.specs.Buffers.{patch}
-use Rattle.file_words.specs.Words.{word_bytes}
-use Rattle.file_words.proofs.put_words.Given as goal
-
-abbrev pub invariant-loop-i : goal.invariant-loop-i
-invariant-loop-i l = l.file ≡ patch (8 * l.at) (word_bytes (take l.i l.words)) l.initial.file
