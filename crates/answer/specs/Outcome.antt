@@ -1,9 +1,10 @@
 -- What an answer says, the code's and the definition's: the values of a plan's fields, or the
 -- refusal.
 use Rattle.std.specs.Prelude.{ℕ, ◌*◌, ◌^◌, ◌<◌, length, Bool, Float, Result as Answered, Ok, Err}
+use Rattle.refusals.specs.Answer.{completed, refused_at}
 use Rattle.plan_spec.specs.Rows.{measurement_words, rotation_words}
 use Rattle.plan_spec.specs.WholeWorks.{WholeWorks, whole_works_of}
-use Rattle.plan_spec.specs.Plan.{Plan, Result, planned, refused_at, chosen}
+use Rattle.plan_spec.specs.Plan.{Plan, Result, chosen}
 use Rattle.work_sums.specs.Tally.{works_of, whole_sums_of}
 use Rattle.plan_buffers.specs.declared.WordCounts.{WordCounts}
 use Rattle.walk.specs.declared.Summary.{Summary}
@@ -41,7 +42,7 @@ used_in p = record {
 
 -- of the definition's result
 abbrev pub outcome_in : Result → Outcome
-outcome_in (planned p) =
+outcome_in (completed p) =
     accepted p.selected p.initial_components p.component_count
     p.dense_work p.component_work p.dense_peak p.peak p.allocated p.whole_works (used_in p)
 outcome_in (refused_at number index) = turned_away number index

@@ -7,12 +7,13 @@ use mathlib.Core.Path.{◌≡◌, refl, sym, ap, ◌∙◌, subst, subst₂}
 use mathlib.Core.List.{List}
 use lib.ListN.{length}
 use lib.Ieee.{Float}
+use Rattle.refusals.specs.Answer.{completed, refused_at}
 use Rattle.words.proofs.Padded.{zeroed_at}
 use Rattle.records.specs.Record.{kind, sine, cosine, record_at, instructions_of}
 use Rattle.records.specs.Sound.{UnitPair}
 use Rattle.records.specs.declared.Head.{Head}
 use Rattle.plan_spec.specs.WholeWorks.{WholeWorks}
-use Rattle.plan_spec.specs.Plan.{Lengths, Plan, Result, planned, refused_at, plan_of}
+use Rattle.plan_spec.specs.Plan.{Lengths, Plan, Result, plan_of}
 use Rattle.plan_spec.specs.Connectivity.{Connected, replay_after}
 use Rattle.plan_spec.specs.Sources.{SourcesListed}
 use Rattle.plan_spec.specs.Groups.{GroupsListed}
@@ -36,8 +37,8 @@ use Rattle.component_plan.specs.Demand.{plan_in}
 
 -- an answer that is a plan is the definition's plan: its fields, and its words followed by zeros
 pub planned_pads : (result : Result) (before after : Buffers) (r : ActiveComponentPlan) → outcome_of (Ok r) ≡ outcome_in result → Held result before after
-    → (p : Plan) × (result ≡ planned p) × Pads p (plan_in r after)
-planned_pads (planned p) before after r e held =
+    → (p : Plan) × (result ≡ completed p) × Pads p (plan_in r after)
+planned_pads (completed p) before after r e held =
     let initial : r.initial_components ≡ p.initial_components = cc in
     let count : r.component_count ≡ p.component_count = cc in
     let peak : r.component_peak_live_dimension ≡ p.peak = cc in
@@ -71,8 +72,8 @@ call_connected h ws before after r a wide none m within =
     (connected h ws (lengths_of before) p found.1 wide none m within)
 
 -- an answer that is a plan counts the definition's words
-planned_used : (result : Result) (r : ActiveComponentPlan) → outcome_of (Ok r) ≡ outcome_in result → (p : Plan) → result ≡ planned p → used_in p ≡ r.used
-planned_used result r e p same = let given : outcome_of (Ok r) ≡ outcome_in (planned p) = e ∙ ap outcome_in same in cc
+planned_used : (result : Result) (r : ActiveComponentPlan) → outcome_of (Ok r) ≡ outcome_in result → (p : Plan) → result ≡ completed p → used_in p ≡ r.used
+planned_used result r e p same = let given : outcome_of (Ok r) ≡ outcome_in (completed p) = e ∙ ap outcome_in same in cc
 
 -- 02, CR 3, of the answer and the buffers that a call leaves: each row's part of the merge list, by the numbers of used words
 pub call_sources : (h : Head) (ws : List ℕ) (before after : Buffers) (r : ActiveComponentPlan)
@@ -101,9 +102,9 @@ call_groups h ws before after r a wide none =
 
 -- an answer that is a plan has the definition's works
 planned_works : (result : Result) (r : ActiveComponentPlan) → outcome_of (Ok r) ≡ outcome_in result
-    → (p : Plan) × (result ≡ planned p) × (p.whole_works ≡ works_of r.whole_works) × (p.dense_work ≡ r.estimated_dense_work)
+    → (p : Plan) × (result ≡ completed p) × (p.whole_works ≡ works_of r.whole_works) × (p.dense_work ≡ r.estimated_dense_work)
     × (p.component_work ≡ r.estimated_component_work)
-planned_works (planned p) r e =
+planned_works (completed p) r e =
     let whole : p.whole_works ≡ works_of r.whole_works = cc in
     let dense : p.dense_work ≡ r.estimated_dense_work = cc in
     let component : p.component_work ≡ r.estimated_component_work = cc in (p, refl, whole, dense, component)
@@ -145,9 +146,9 @@ call_squares h ws before after r a wide none =
 
 -- buffers of the same lengths hold the same after the same plan
 held_same : (p : Plan) (before after before' after' : Buffers) → lengths_of before' ≡ lengths_of before
-    → Held (planned p) before after → Held (planned p) before' after' → after' ≡ after
+    → Held (completed p) before after → Held (completed p) before' after' → after' ≡ after
 held_same p before after before' after' same held held' =
-    held' ∙ ap (λ (l : Lengths). padded_buffers l (result_words (planned p))) same ∙ sym held
+    held' ∙ ap (λ (l : Lengths). padded_buffers l (result_words (completed p))) same ∙ sym held
 
 -- and under every other ceiling that is above max_k and above each size, a call gives the same answer and leaves the same words
 pub call_under : (h : Head) (ws : List ℕ) (before after : Buffers) (r : ActiveComponentPlan) → Answers h ws before after (Ok r)
@@ -163,7 +164,7 @@ call_under h ws before after r a ceiling holds before' after' r' same a' =
       max_below = holds.max_below;
       sizes_below = λ c. subst (λ (n : ℕ). n < ceiling) (zeroed_at p.sizes after.sizes c found.2.sizes) (holds.sizes_below c);
     }) in
-    let other : plan_of (under ceiling h) ws (lengths_of before') ≡ planned p = ap (plan_of (under ceiling h) ws) same ∙ there in (
+    let other : plan_of (under ceiling h) ws (lengths_of before') ≡ completed p = ap (plan_of (under ceiling h) ws) same ∙ there in (
       a'.answer ∙ ap outcome_in (other ∙ sym found.1) ∙ sym a.answer,
       held_same p before after before' after' same (subst (λ (x : Result). Held x before after) found.1 a.held) (subst (λ (x : Result). Held x before' after') other a'.held),
     )

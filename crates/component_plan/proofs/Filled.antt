@@ -8,6 +8,7 @@ use mathlib.Core.Bool.{Bool, true, false, cond}
 use mathlib.Core.List.{List}
 use lib.Dec.{ltb}
 use lib.ListN.{length, take}
+use Rattle.refusals.specs.Answer.{completed}
 use borrow.Author.Tests.{ltb-false}
 use Rattle.words.specs.Lists.{Begins}
 use Rattle.words.proofs.Patches.{begins_take}
@@ -16,7 +17,7 @@ use Rattle.records.proofs.Laws.{instructions_length}
 use Rattle.plan_spec.specs.Lists.{concat}
 use Rattle.plan_spec.specs.WholeWorks.{WholeSums, too_wide, quotient_of, whole_works_of}
 use Rattle.plan_spec.specs.Walk.{Walk, start}
-use Rattle.plan_spec.specs.Plan.{planned, plan_from, groups_of}
+use Rattle.plan_spec.specs.Plan.{plan_from, groups_of}
 use Rattle.plan_spec.proofs.Steps.{Run}
 use Rattle.plan_spec.proofs.Growth.{run_rotations, run_measurements, start_wide, length_concat}
 use Rattle.plan_spec.proofs.WholeWorks.{reached_exactly}
@@ -92,7 +93,7 @@ module _ {limit : ℕ} (k : ℕ) (ws : List ℕ) (w : Walk) (run : Run limit (st
 
   -- so the first words of all seven are the plan's
   first_same : (dense_peak : ℕ)
-      → first_words (used_by s (length ws / 8)) s.groups walked ≡ result_words (planned (plan_from k dense_peak w))
+      → first_words (used_by s (length ws / 8)) s.groups walked ≡ result_words (completed (plan_from k dense_peak w))
   unfolding plan_from
   first_same dense_peak i = record {
     steps = front_is _ w.written.steps walked.steps step_words ended.steps i;
@@ -107,7 +108,7 @@ module _ {limit : ℕ} (k : ℕ) (ws : List ℕ) (w : Walk) (run : Run limit (st
   -- and with zeros behind them they hold the plan
   pub walk_held : (dense_peak : ℕ) (before after : Buffers) (used : WordCounts) → SameLengths before walked
       → used ≡ used_by s (length ws / 8) → after ≡ padded_buffers (lengths_of walked) (first_words used s.groups walked)
-      → Held (planned (plan_from k dense_peak w)) before after
+      → Held (completed (plan_from k dense_peak w)) before after
   walk_held dense_peak before after used same counted cleared =
       cleared
       ∙ ap (λ (u : WordCounts). padded_buffers (lengths_of walked) (first_words u s.groups walked)) counted

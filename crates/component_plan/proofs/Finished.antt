@@ -6,6 +6,7 @@ use native.Mathlib.Omega.{arith}
 use mathlib.Core.Path.{◌≡◌, refl, sym, ap, ◌∙◌, subst}
 use mathlib.Core.List.{List}
 use lib.ListN.{length, take, get_or}
+use Rattle.refusals.specs.Answer.{completed}
 use Rattle.words.specs.Words.{AllBelow}
 use Rattle.words.proofs.Patches.{begins_length}
 use Rattle.words.proofs.Words.{below_each}
@@ -13,7 +14,7 @@ use Rattle.records.specs.Record.{instructions_of}
 use Rattle.records.specs.Pass.{Passed, record_pass}
 use Rattle.records.specs.declared.Head.{Head}
 use Rattle.plan_spec.specs.Components.{allocated_for}
-use Rattle.plan_spec.specs.Walk.{Walk, finished, start, walk_from}
+use Rattle.plan_spec.specs.Walk.{Walk, start, walk_from}
 use Rattle.plan_spec.specs.Plan.{plan_from, plan_read, buffers_refused, after_walk}
 use Rattle.plan_spec.proofs.Steps.{Run, run_of_walk}
 use Rattle.plan_spec.proofs.Sizes.{reached_longest}
@@ -44,7 +45,7 @@ module _ (h : Head) (dense_peak : ℕ) (ws : List ℕ) (before : Buffers) (lent 
   read_walk = lent_passed h ws (lengths_of before) dense_peak 0 lent refl Passed passed
 
   module _ (walked : Buffers) (done : Summary) (ends : WalkEnds (walk_from h.ceiling 0 (start h.initial_k) (instructions_of ws)) (Ok done) walked) where
-    ended : (w : Walk) × (walk_from h.ceiling 0 (start h.initial_k) (instructions_of ws) ≡ finished w) × Ended w done walked
+    ended : (w : Walk) × (walk_from h.ceiling 0 (start h.initial_k) (instructions_of ws) ≡ completed w) × Ended w done walked
     ended = walk_finishes (walk_from h.ceiling 0 (start h.initial_k) (instructions_of ws)) done walked ends
 
     run : Run h.ceiling (start h.initial_k) (instructions_of ws) ended.0

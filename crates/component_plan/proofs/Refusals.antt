@@ -12,7 +12,7 @@ use lib.IntN.{pos}
 use lib.Ieee.{fin}
 use borrow.Author.Tests.{ltb-false, lt-ltb, le-ltb, eq-eqb, ne_eqb}
 use Rattle.kernels.specs.Bits.{dimension}
-use Rattle.refusals.specs.Answer.{Answer, given, refused}
+use Rattle.refusals.specs.Answer.{Answer, given, refused, completed, refused_at}
 use Rattle.refusals.specs.Numbers.{number_of}
 use Rattle.refusals.specs.declared.Refusal.{Refusal}
 use Rattle.refusals.proofs.Laws.{err_is}
@@ -20,8 +20,8 @@ use Rattle.records.specs.Pass.{Checked, record_pass}
 use Rattle.records.specs.declared.Head.{Head}
 use Rattle.plan_spec.specs.Components.{allocated_for}
 use Rattle.plan_spec.specs.WholeWorks.{WholeWorks, whole_works_of}
-use Rattle.plan_spec.specs.Walk.{Walk, Walked, finished, stopped}
-use Rattle.plan_spec.specs.Plan.{Lengths, Plan, Result, planned, refused_at, chosen, unread, unread_plan, plan_from, words_refused, buffers_refused, refuse_all, after_pass, plan_read, for_dense_peak, ceiling_refused, plan_of}
+use Rattle.plan_spec.specs.Walk.{Walk, Walked}
+use Rattle.plan_spec.specs.Plan.{Lengths, Plan, Result, chosen, unread, unread_plan, plan_from, words_refused, buffers_refused, refuse_all, after_pass, plan_read, for_dense_peak, ceiling_refused, plan_of}
 use Rattle.plan_spec.proofs.Steps.{cond_yes, cond_no}
 use Rattle.work_sums.specs.declared.WholeWorks.TheVariants as Whole
 use Rattle.answer.specs.declared.ActiveComponentPlan.{ActiveComponentPlan}
@@ -82,24 +82,24 @@ module _ (h : Head) (ws : List ℕ) (l : Lengths) (dense_peak number : ℕ) (tol
 
 -- ---- the walk's answer
 
-pub walk_stops : (x : Walked) (refusal : Refusal) (b : Buffers) → WalkEnds x (Err refusal) b → x ≡ stopped (number_of refusal.reason) refusal.index
-walk_stops (finished w) refusal b e = absurd e
-walk_stops (stopped n i) refusal b e = ap₂ stopped e.0 e.1
+pub walk_stops : (x : Walked) (refusal : Refusal) (b : Buffers) → WalkEnds x (Err refusal) b → x ≡ refused_at (number_of refusal.reason) refusal.index
+walk_stops (completed w) refusal b e = absurd e
+walk_stops (refused_at n i) refusal b e = ap₂ refused_at e.0 e.1
 
-pub walk_finishes : (x : Walked) (s : Summary) (b : Buffers) → WalkEnds x (Ok s) b → (w : Walk) × (x ≡ finished w) × Ended w s b
-walk_finishes (finished w) s b e = (w, refl, e)
-walk_finishes (stopped n i) s b e = absurd e
+pub walk_finishes : (x : Walked) (s : Summary) (b : Buffers) → WalkEnds x (Ok s) b → (w : Walk) × (x ≡ completed w) × Ended w s b
+walk_finishes (completed w) s b e = (w, refl, e)
+walk_finishes (refused_at n i) s b e = absurd e
 
 -- ---- the answer and the buffers that go with a result
 
 pub filled_refused : (result : Result) (before after : Buffers) (refusal : Refusal) → result ≡ refused_at (number_of refusal.reason) refusal.index → Filled result before after (Err refusal)
 filled_refused result before after refusal e = record {
   answer = sym (ap outcome_in e);
-  held = λ p f. let same : refused_at (number_of refusal.reason) refusal.index ≡ planned p = sym e ∙ f in let z : ◌≡◌ {A = ℕ} 0 1 = cc in absurd (omega arith);
+  held = λ p f. let same : refused_at (number_of refusal.reason) refusal.index ≡ completed p = sym e ∙ f in let z : ◌≡◌ {A = ℕ} 0 1 = cc in absurd (omega arith);
 }
 
 pub filled_planned : (result : Result) (before after : Buffers) (p : Plan) (r : Answered ActiveComponentPlan Refusal)
-    → result ≡ planned p → outcome_of r ≡ outcome_in (planned p) → Held (planned p) before after → Filled result before after r
+    → result ≡ completed p → outcome_of r ≡ outcome_in (completed p) → Held (completed p) before after → Filled result before after r
 filled_planned result before after p r e answer held = record {
   answer = answer ∙ sym (ap outcome_in e);
   held = λ q f. subst (λ (x : Result). Held x before after) (sym e ∙ f) held;
@@ -118,7 +118,7 @@ pub plan_same : (initial dense_peak : ℕ) (w : Walk) (s : Summary) (b : Buffers
     → outcome_of (Ok r)
     ≡ accepted (chosen s.tally.quantum s.tally.dense s.tally.work allocated dense_peak) initial s.count s.tally.dense s.tally.work dense_peak
     s.tally.peak allocated whole used
-    → outcome_of (Ok r) ≡ outcome_in (planned (plan_from initial dense_peak w))
+    → outcome_of (Ok r) ≡ outcome_in (completed (plan_from initial dense_peak w))
 unfolding plan_from
 plan_same initial dense_peak w s b allocated whole used r ended all same counted e =
     e ∙ fields ended.sums.quantum ended.sums.dense ended.sums.work all ended.count ended.sums.peak same counted
@@ -143,7 +143,7 @@ pub unread_same : (initial dense_peak : ℕ) (r : ActiveComponentPlan)
       whole_works = Whole.WithoutQuotient 0;
       used = record { steps = 0; merges = 0; sizes = 0; rotations = 0; promotions = 0; measurements = 0 };
     }
-    → outcome_of (Ok r) ≡ outcome_in (planned (unread_plan initial dense_peak))
+    → outcome_of (Ok r) ≡ outcome_in (completed (unread_plan initial dense_peak))
 unfolding unread_plan
 unread_same initial dense_peak r e = ap (λ (p : ActiveComponentPlan). outcome_of (Ok p)) e
 
@@ -156,7 +156,7 @@ zeros_held before between after same zeros = zeros ∙ ap (λ (l : Lengths). pad
 
 -- a plan that read nothing has no words
 pub unread_held : (initial dense_peak : ℕ) (before after : Buffers) → after ≡ padded_buffers (lengths_of before) no_words
-    → Held (planned (unread_plan initial dense_peak)) before after
+    → Held (completed (unread_plan initial dense_peak)) before after
 unfolding unread_plan
 unread_held initial dense_peak before after zeros = zeros
 
@@ -180,7 +180,7 @@ pub plan_headless : (h : Head) (ws : List ℕ) (l : Lengths) (number : ℕ) → 
 plan_headless h ws l number e = headed h ws l (refused number) e
 
 module _ (h : Head) (ws : List ℕ) (l : Lengths) (dense_peak : ℕ) (decided : given dense_peak ≡ head_answer h) where
-  pub plan_unread : unread h ≡ true → plan_of h ws l ≡ planned (unread_plan h.initial_k dense_peak)
+  pub plan_unread : unread h ≡ true → plan_of h ws l ≡ completed (unread_plan h.initial_k dense_peak)
   plan_unread e = headed h ws l (given dense_peak) decided ∙ cond_yes (unread h) _ _ e
 
   pub plan_is_read : unread h ≡ false → plan_of h ws l ≡ plan_read h ws l dense_peak
@@ -190,12 +190,12 @@ module _ (h : Head) (ws : List ℕ) (l : Lengths) (dense_peak : ℕ) (decided : 
 
 -- a refusal's outcome is a refusal's
 pub away : (result : Result) (number index : ℕ) → turned_away number index ≡ outcome_in result → result ≡ refused_at number index
-away (planned p) number index e = let z : ◌≡◌ {A = ℕ} 0 1 = cc in absurd (omega arith)
+away (completed p) number index e = let z : ◌≡◌ {A = ℕ} 0 1 = cc in absurd (omega arith)
 away (refused_at n i) number index e = let same : n ≡ number = cc in let at : i ≡ index = cc in ap₂ refused_at same at
 
 -- and a plan's is a plan's
-stays : (result : Result) (x : ActiveComponentPlan) → outcome_of (Ok x) ≡ outcome_in result → (p : Plan) × (result ≡ planned p)
-stays (planned p) x e = (p, refl)
+stays : (result : Result) (x : ActiveComponentPlan) → outcome_of (Ok x) ≡ outcome_in result → (p : Plan) × (result ≡ completed p)
+stays (completed p) x e = (p, refl)
 stays (refused_at n i) x e = let z : ◌≡◌ {A = ℕ} 0 1 = cc in absurd (omega arith)
 
 pub planned_answers : (h : Head) (ws : List ℕ) (before after : Buffers) (r : Answered ActiveComponentPlan Refusal)

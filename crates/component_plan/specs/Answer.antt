@@ -1,9 +1,10 @@
 -- What the contract of `build_active_component_plan` says: number and values for each case of the
 -- answer, and the seven buffers.
 use Rattle.std.specs.Prelude.{ℕ, ◌≡◌, List, Result as Answered}
+use Rattle.refusals.specs.Answer.{completed}
 use Rattle.refusals.specs.declared.Refusal.{Refusal}
 use Rattle.records.specs.declared.Head.{Head}
-use Rattle.plan_spec.specs.Plan.{Plan, Result, planned, plan_of, plan_read}
+use Rattle.plan_spec.specs.Plan.{Plan, Result, plan_of, plan_read}
 use Rattle.plan_buffers.specs.SevenBuffers.{Buffers, lengths_of, Held}
 use Rattle.answer.specs.declared.ActiveComponentPlan.{ActiveComponentPlan}
 use Rattle.answer.specs.Outcome.{outcome_of, outcome_in}
@@ -18,7 +19,7 @@ pub record Answers (h : Head) (ws : List ℕ) (before after : Buffers)
 pub record Filled (result : Result) (before after : Buffers)
     (r : Answered ActiveComponentPlan Refusal) : Type 0 where
   pub answer : outcome_of r ≡ outcome_in result
-  pub held : (p : Plan) → result ≡ planned p → Held (planned p) before after
+  pub held : (p : Plan) → result ≡ completed p → Held (completed p) before after
 
 -- of a program
 abbrev pub HeadAnswers : Head → List ℕ → Buffers → Buffers

@@ -9,12 +9,13 @@ use lib.Dec.{ltb}
 use lib.ListN.{length, get_or, take}
 use Rattle.std.proofs.lemmas.List.{get_or_append_left}
 use lib.Seq.{get_or-append-add}
+use Rattle.refusals.specs.Answer.{completed, refused_at}
 use Rattle.words.specs.Lists.{padded}
 use Rattle.words.proofs.Padded.{front_of_padded}
 use Rattle.words.proofs.Bytes.{length_words}
 use Rattle.records.specs.declared.Head.{Head}
 use Rattle.refusals.specs.Numbers as Reasons
-use Rattle.plan_spec.specs.Plan.{Plan, Result, planned, refused_at, refuse_all, plan_of}
+use Rattle.plan_spec.specs.Plan.{Plan, Result, refuse_all, plan_of}
 use Rattle.plan_spec.proofs.Claims.{map_entries}
 use Rattle.plan_buffers.specs.declared.WordCounts.{WordCounts}
 use Rattle.plan_buffers.specs.SevenBuffers.{Buffers, lengths_of}
@@ -38,14 +39,14 @@ use Rattle.guarantees.proofs.Numbers.{refused_number}
 -- a plan that fits its file, or a refusal with a number
 record Fitted (result : Result) : Type 0 where
   plan : Plan
-  is : result ≡ planned plan
+  is : result ≡ completed plan
 
 -- a number of 0 is that of a plan that fits
 fitted : (size : ℕ) (result : Result) → ((n i : ℕ) → result ≡ refused_at n i → 0 < n) → 0 ≡ store_number (Storing.outcome_in (fitting size result)) → Fitted (fitting size result)
 fitted size (refused_at n i) numbered z = let some = numbered n i refl in absurd (omega arith)
-fitted size (planned p) numbered z = go (ltb size (length (file_of p))) z
+fitted size (completed p) numbered z = go (ltb size (length (file_of p))) z
   where
-    go : (t : Bool) → 0 ≡ store_number (Storing.outcome_in (refuse_all t 23 (planned p))) → Fitted (refuse_all t 23 (planned p))
+    go : (t : Bool) → 0 ≡ store_number (Storing.outcome_in (refuse_all t 23 (completed p))) → Fitted (refuse_all t 23 (completed p))
     go true z = absurd (omega arith)
     go false z = record { plan = p; is = refl }
 
@@ -56,7 +57,7 @@ file_answer h ws before after file filed n (LeavesFile.answer m a) = a
 file_answer h ws before after file filed n (LeavesFile.reply res words room a) =
     let l = lengths_of before in
     let found = fitted (length file) (plan_of h ws l) (refused_number h ws l) a.number in
-    let told = store_words (Storing.outcome_in (planned found.plan)) in
+    let told = store_words (Storing.outcome_in (completed found.plan)) in
     let same : get_or words 1 0 ≡ length (file_of found.plan) =
     ap (λ (l : List ℕ). get_or l 1 0) (a.result ∙ ap (λ (x : Result). laid_out (length res) (store_words (Storing.outcome_in x))) found.is)
     ∙ word_there (length res) told 1 (omega arith) in

@@ -11,12 +11,13 @@ use lib.ListN.{length, get_or}
 use Rattle.std.proofs.lemmas.List.{get_or-map}
 use lib.Ieee.{binary64, fits, of_bits}
 use lib.Ieee.Bits.{of_bits-to_bits}
+use Rattle.refusals.specs.Answer.{completed, refused_at}
 use Rattle.words.specs.Lists.{numbers_from}
 use Rattle.words.specs.Words.{flag_word}
 use Rattle.words.proofs.Numbers.{length-numbers, numbers_at}
 use Rattle.records.specs.declared.Head.{Head}
 use Rattle.plan_spec.specs.WholeWorks.{WholeWorks, too_wide, without_quotient, with_quotient, whole_words}
-use Rattle.plan_spec.specs.Plan.{Lengths, Plan, Result, planned, refused_at, plan_of}
+use Rattle.plan_spec.specs.Plan.{Lengths, Plan, Result, plan_of}
 use Rattle.plan_spec.proofs.Words.{works_fit}
 use Rattle.work_sums.specs.Tally.{works_of}
 use Rattle.work_sums.specs.declared.WholeWorks as Declared
@@ -59,7 +60,7 @@ answer_for p = record {
   used = used_in p;
 }
 
-answer_there : (p : Plan) → outcome_of (Ok (answer_for p)) ≡ outcome_in (planned p)
+answer_there : (p : Plan) → outcome_of (Ok (answer_for p)) ≡ outcome_in (completed p)
 unfolding answer_for
 answer_there p =
     ap (λ (w : WholeWorks). accepted p.selected p.initial_components p.component_count p.dense_work p.component_work p.dense_peak p.peak p.allocated w (used_in p))
@@ -87,10 +88,10 @@ works_back (without_quotient dense) reply a b c d e = simp (a, b) refl
 works_back (with_quotient dense component quotient remainder) reply a b c d e = simp (a, b, c, d, e) refl
 
 told_back : (p : Plan) (n : ℕ) (after : Buffers) → 14 ≤ n → T (fits binary64 p.dense_work) × T (fits binary64 p.component_work)
-    → plan_told (laid_out n (words_of (outcome_in (planned p)))) after ≡ plan_in (answer_for p) after
+    → plan_told (laid_out n (words_of (outcome_in (completed p)))) after ≡ plan_in (answer_for p) after
 unfolding answer_for
 told_back p n after room floats j =
-    let words = words_of (outcome_in (planned p)) in
+    let words = words_of (outcome_in (completed p)) in
     let word : (i : ℕ) → i < 14 → get_or (laid_out n words) i 0 ≡ get_or words i 0 = λ i h. word_there n words i (omega arith) in record {
       selected = (ap (λ (w : ℕ). not (w == 0)) (word 1 (omega arith)) ∙ flag_there p.selected) j;
       initial_components = word 2 (omega arith) j;
@@ -119,8 +120,8 @@ pub record Said (h : Head) (ws : List ℕ) (before after : Buffers) (p : Plan) :
   pub same : plan_in answer after ≡ p
 
 -- a reply of 0 is that of a plan
-reply_planned : (h : Head) (ws : List ℕ) (l : Lengths) (r : Result) → plan_of h ws l ≡ r → 0 ≡ number_of (outcome_in r) → (p : Plan) × (plan_of h ws l ≡ planned p)
-reply_planned h ws l (planned p) e z = (p, e)
+reply_planned : (h : Head) (ws : List ℕ) (l : Lengths) (r : Result) → plan_of h ws l ≡ r → 0 ≡ number_of (outcome_in r) → (p : Plan) × (plan_of h ws l ≡ completed p)
+reply_planned h ws l (completed p) e z = (p, e)
 reply_planned h ws l (refused_at n i) e z = let some = refused_number h ws l n i e in absurd (omega arith)
 
 reply_said : (h : Head) (ws : List ℕ) (before after : Buffers) (res words : List ℕ) → 14 ≤ length res → Replies h ws before after res words 0

@@ -13,7 +13,7 @@ use borrow.Author.Tests.{le-leb}
 use lib.Seq.{drop-cons, length-take-le}
 use Rattle.words.specs.Lists.{Begins, part_of}
 use Rattle.words.proofs.Patches.{begins_trans, begins_length, part_there}
-use Rattle.refusals.specs.Answer.{Answer, given, refused}
+use Rattle.refusals.specs.Answer.{Answer, given, refused, completed}
 use Rattle.records.specs.Record.{instructions_of}
 use Rattle.records.specs.declared.Head.{Head}
 use Rattle.records.specs.declared.Instruction.{Instruction}
@@ -21,7 +21,7 @@ use Rattle.records.specs.declared.Instruction.TheVariants.{DormantBranch}
 use Rattle.plan_spec.specs.Lists.{concat, place_of, remove_at}
 use Rattle.plan_spec.specs.Rows.{step_row, row_merge_offset, row_merge_count}
 use Rattle.plan_spec.specs.Components.{local_mask}
-use Rattle.plan_spec.specs.Walk.{Written, Walk, Join, join_of, no_step, ignored_step, promotion_step, rotation_step, measurement_step, start, step, finished, onward, walk_from}
+use Rattle.plan_spec.specs.Walk.{Written, Walk, Join, join_of, no_step, ignored_step, promotion_step, rotation_step, measurement_step, start, step, onward, walk_from}
 use Rattle.plan_spec.specs.Plan.{Plan, plan_from, plan_of, unread}
 use Rattle.plan_spec.specs.Connectivity.{listed_by}
 use Rattle.plan_spec.specs.Sources.{Listed}
@@ -151,16 +151,16 @@ module _ (u : Walk) (b : Buffers) (held : Holds u.written b) (i : ℕ) where
 -- ---- the walk from a state on
 
 -- a finished walk comes to a state after m instructions, and goes on from there to its end
-walk_on : (limit index m : ℕ) (s u : Walk) (is : List Instruction) → walk_from limit index s is ≡ finished u
-    → (w : Walk) × (walk_from limit index s (take m is) ≡ finished w) × Run limit w (drop m is) u
+walk_on : (limit index m : ℕ) (s u : Walk) (is : List Instruction) → walk_from limit index s is ≡ completed u
+    → (w : Walk) × (walk_from limit index s (take m is) ≡ completed w) × Run limit w (drop m is) u
 unfolding walk_from
 walk_on limit index zero s u is whole = (s, refl, run_of_walk limit index s u is whole)
 walk_on limit index (suc m) s u [] whole = (s, refl, run_of_walk limit index s u [] whole)
 walk_on limit index (suc m) s u (i ∷ is) whole = go (step limit s i) whole (λ v. walk_on limit (suc index) m v u is)
   where
-    go : (x : Answer Walk) → onward x index (λ v. walk_from limit (suc index) v is) ≡ finished u
-        → ((v : Walk) → walk_from limit (suc index) v is ≡ finished u → (w : Walk) × (walk_from limit (suc index) v (take m is) ≡ finished w) × Run limit w (drop m is) u)
-        → (w : Walk) × (onward x index (λ v. walk_from limit (suc index) v (take m is)) ≡ finished w) × Run limit w (drop m is) u
+    go : (x : Answer Walk) → onward x index (λ v. walk_from limit (suc index) v is) ≡ completed u
+        → ((v : Walk) → walk_from limit (suc index) v is ≡ completed u → (w : Walk) × (walk_from limit (suc index) v (take m is) ≡ completed w) × Run limit w (drop m is) u)
+        → (w : Walk) × (onward x index (λ v. walk_from limit (suc index) v (take m is)) ≡ completed w) × Run limit w (drop m is) u
     go (given v) e later = later v e
     go (refused n) e later = let z : ◌≡◌ {A = ℕ} 0 1 = cc in absurd (omega arith)
 
@@ -169,7 +169,7 @@ walk_on limit index (suc m) s u (i ∷ is) whole = go (step limit s i) whole (λ
 -- each record finds the definition's walk in a state, and the steps, rows and parts that are read from a call's buffers are what the walk gave for it there
 pub planned_back : (h : Head) (ws : List ℕ) (before after : Buffers) (r : ActiveComponentPlan) → Answers h ws before after (Ok r) → unread h ≡ false
     → (i : ℕ) → i < length (instructions_of ws)
-    → (w : Walk) × (walk_from h.ceiling 0 (start h.initial_k) (take i (instructions_of ws)) ≡ finished w) × GivenBack h.ceiling w (get_or (instructions_of ws) i DormantBranch) i after
+    → (w : Walk) × (walk_from h.ceiling 0 (start h.initial_k) (take i (instructions_of ws)) ≡ completed w) × GivenBack h.ceiling w (get_or (instructions_of ws) i DormantBranch) i after
 unfolding plan_from
 planned_back h ws before after r answers read i below =
     let is = instructions_of ws in

@@ -5,11 +5,12 @@ use native.Mathlib.Omega.{arith}
 use mathlib.Core.Path.{◌≡◌, sym, ap, ◌∙◌, subst, subst₂}
 use mathlib.Core.List.{List}
 use lib.ListN.{length, take}
+use Rattle.refusals.specs.Answer.{completed}
 use Rattle.words.proofs.Padded.{zeroed_at}
 use Rattle.records.specs.Record.{instructions_of}
 use Rattle.records.specs.declared.Head.{Head}
 use Rattle.refusals.specs.declared.Refusal.{Refusal}
-use Rattle.plan_spec.specs.Plan.{Plan, Result, planned, plan_of}
+use Rattle.plan_spec.specs.Plan.{Plan, Result, plan_of}
 use Rattle.plan_spec.specs.Connectivity.{Connected, replay_after}
 use Rattle.plan_spec.specs.Sources.{SourcesListed}
 use Rattle.plan_spec.specs.Groups.{GroupsListed}
@@ -55,8 +56,8 @@ components h ws before after p leaves read m within =
     subst (λ (q : Plan). Connected h.initial_k (instructions_of ws) q m) s.same (call_connected h ws before after s.answer s.answers read.wide read.no_values m within)
 
 -- an answer uses as many words as the definition's plan
-used_same : (r : ActiveComponentPlan) (result : Result) (q : Plan) → outcome_of (Ok r) ≡ outcome_in result → result ≡ planned q → r.used ≡ used_in q
-used_same r result q e f = let given : outcome_of (Ok r) ≡ outcome_in (planned q) = e ∙ ap outcome_in f in cc
+used_same : (r : ActiveComponentPlan) (result : Result) (q : Plan) → outcome_of (Ok r) ≡ outcome_in result → result ≡ completed q → r.used ≡ used_in q
+used_same r result q e f = let given : outcome_of (Ok r) ≡ outcome_in (completed q) = e ∙ ap outcome_in f in cc
 
 pub sources : SourcesAreListed
 sources h ws before after p q leaves read is =
@@ -88,7 +89,7 @@ too_wide h ws before after p leaves read =
     subst (λ (q : Plan). TooWideExactly h.initial_k (instructions_of ws) q.whole_works) s.same (call_too_wide h ws before after s.answer s.answers read.wide read.no_values)
 
 -- an answer that is a plan has the works of the definition's
-works_same : (p : Plan) (r : ActiveComponentPlan) → outcome_of (Ok r) ≡ outcome_in (planned p)
+works_same : (p : Plan) (r : ActiveComponentPlan) → outcome_of (Ok r) ≡ outcome_in (completed p)
     → NonNegative p.dense_work × NonNegative p.component_work → NonNegative r.estimated_dense_work × NonNegative r.estimated_component_work
 works_same p r e works =
     let dense : p.dense_work ≡ r.estimated_dense_work = cc in
@@ -185,7 +186,7 @@ no_other_plan h ws before after before' after' p q ceiling lengths leaves other 
 -- ---- plans that read no record, room, guards
 
 -- an answer that says what a plan says that says nothing
-says_same : (h : Head) (p : Plan) (r : ActiveComponentPlan) (after : Buffers) → outcome_of (Ok r) ≡ outcome_in (planned p) → SaysNothing h p → SaysNothing h (plan_in r after)
+says_same : (h : Head) (p : Plan) (r : ActiveComponentPlan) (after : Buffers) → outcome_of (Ok r) ≡ outcome_in (completed p) → SaysNothing h p → SaysNothing h (plan_in r after)
 says_same h p r after e s = record {
   selected = cc;
   initial_components = cc;
@@ -204,7 +205,7 @@ unread_empty h ws before after p leaves u =
     let s = said h ws before after p leaves in
     let found = planned_pads (plan_of h ws l) before after s.answer s.answers.answer s.answers.held in
     let q = unread_says h ws l found.0 u found.1 in
-    let held = subst (λ (x : Result). Held x before after) (found.1 ∙ ap planned q.1) s.answers.held in (
+    let held = subst (λ (x : Result). Held x before after) (found.1 ∙ ap completed q.1) s.answers.held in (
       subst (SaysNothing h) s.same (says_same h (found.0) s.answer after (s.answers.answer ∙ ap outcome_in found.1) q.2),
       unread_held h.initial_k q.0 before after held,
     )

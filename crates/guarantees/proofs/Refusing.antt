@@ -6,9 +6,10 @@ use native.Mathlib.Nat.{sub-zero}
 use native.Mathlib.Omega.{arith}
 use Rattle.std.specs.Prelude.{None, replicate}
 use lib.ListN.{length, get_or}
+use Rattle.refusals.specs.Answer.{completed, refused_at}
 use Rattle.refusals.specs.Numbers as Reasons
 use Rattle.records.specs.declared.Head.{Head}
-use Rattle.plan_spec.specs.Plan.{Result, planned, refused_at, plan_of}
+use Rattle.plan_spec.specs.Plan.{Result, plan_of}
 use Rattle.answer.specs.Outcome.{turned_away, outcome_in}
 use Rattle.midvokt.specs.Reply.{number_of, words_of, laid_out}
 use Rattle.guarantees.specs.Calls.{Leaves, Refuses, zeroed}
@@ -22,12 +23,12 @@ pub record RefusedAt (result : Result) (number : ℕ) : Type 0 where
 
 -- an outcome that turns away is that of a refusal
 by_outcome : (result : Result) (number index : ℕ) → turned_away number index ≡ outcome_in result → result ≡ refused_at number index
-by_outcome (planned p) number index e = let z : ◌≡◌ {A = ℕ} 0 1 = cc in absurd (omega arith)
+by_outcome (completed p) number index e = let z : ◌≡◌ {A = ℕ} 0 1 = cc in absurd (omega arith)
 by_outcome (refused_at n i) number index e = cc
 
 -- and so is a number that is not 0
 by_number : (result : Result) (number : ℕ) → 0 < number → number ≡ number_of (outcome_in result) → RefusedAt result number
-by_number (planned p) number some e = absurd (omega arith)
+by_number (completed p) number some e = absurd (omega arith)
 by_number (refused_at n i) number some e = record { index = i; is = ap (λ (m : ℕ). refused_at m i) (sym e) }
 
 -- the definition's refusal, by what a call tells

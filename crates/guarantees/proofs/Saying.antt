@@ -6,10 +6,11 @@ use mathlib.Core.List.{List}
 use Prim.Native.Nat.{ℕ, ◌^◌, min}
 use native.Mathlib.Omega.{arith}
 use lib.Dec.{ltb}
+use Rattle.refusals.specs.Answer.{completed}
 use Rattle.kernels.specs.Bits.{dimension}
 use Rattle.records.specs.declared.Head.{Head}
 use Rattle.plan_spec.specs.Walk.{start}
-use Rattle.plan_spec.specs.Plan.{Lengths, Plan, planned, unread, unread_plan, plan_from, max_dimension, for_dense_peak, plan_of}
+use Rattle.plan_spec.specs.Plan.{Lengths, Plan, unread, unread_plan, plan_from, max_dimension, for_dense_peak, plan_of}
 use Rattle.plan_spec.specs.Laws.{NonNegative, number}
 use Rattle.plan_spec.proofs.Steps.{cond_yes}
 use Rattle.plan_spec.proofs.Accepted.{ceiling_passed, accepted}
@@ -29,7 +30,7 @@ unread_works : (initial dense_peak : ℕ) → Works (unread_plan initial dense_p
 unread_works initial dense_peak = subst Works (sym (unread_is initial dense_peak)) (number 0 (pos 0), number 0 (pos 0))
 
 -- of a plan that was read, the last state of its walk has such works; and one that was not has none
-pub works_not_negative : (h : Head) (ws : List ℕ) (l : Lengths) (p : Plan) → plan_of h ws l ≡ planned p → Works p
+pub works_not_negative : (h : Head) (ws : List ℕ) (l : Lengths) (p : Plan) → plan_of h ws l ≡ completed p → Works p
 unfolding plan_from
 works_not_negative h ws l p e = go (unread h) refl
   where
@@ -63,20 +64,20 @@ says_nothing h dense_peak e = subst (SaysNothing h) (sym (unread_is h.initial_k 
   whole_works = refl;
 })
 
-pub unread_says : (h : Head) (ws : List ℕ) (l : Lengths) (p : Plan) → unread h ≡ true → plan_of h ws l ≡ planned p
+pub unread_says : (h : Head) (ws : List ℕ) (l : Lengths) (p : Plan) → unread h ≡ true → plan_of h ws l ≡ completed p
     → (dense_peak : ℕ) × (p ≡ unread_plan h.initial_k dense_peak) × SaysNothing h p
 unread_says h ws l p u e = go (max_dimension h) refl (ceiling_passed h ws l p e).1
   where
-    go : (d : Option ℕ) → max_dimension h ≡ d → for_dense_peak h ws l d ≡ planned p
+    go : (d : Option ℕ) → max_dimension h ≡ d → for_dense_peak h ws l d ≡ completed p
         → (dense_peak : ℕ) × (p ≡ unread_plan h.initial_k dense_peak) × SaysNothing h p
     go None m e = let z : ◌≡◌ {A = ℕ} 0 1 = cc in absurd (omega arith)
     go (Some dense_peak) m e =
-        let f : planned (unread_plan h.initial_k dense_peak) ≡ planned p = sym (cond_yes (unread h) _ _ u) ∙ e in
+        let f : completed (unread_plan h.initial_k dense_peak) ≡ completed p = sym (cond_yes (unread h) _ _ u) ∙ e in
         let same : p ≡ unread_plan h.initial_k dense_peak = cc in
         (dense_peak, same, subst (SaysNothing h) (sym same) (says_nothing h dense_peak (dimension_is h.ceiling h.max_k dense_peak m)))
 
 -- its buffers hold zeros
-pub unread_held : (initial dense_peak : ℕ) (before after : Buffers) → Held (planned (unread_plan initial dense_peak)) before after → after ≡ zeroed before
+pub unread_held : (initial dense_peak : ℕ) (before after : Buffers) → Held (completed (unread_plan initial dense_peak)) before after → after ≡ zeroed before
 unfolding unread_plan plan_from start
 unread_held initial dense_peak before after held = zeros_held 0 0 before after (record {
   steps = held.steps;

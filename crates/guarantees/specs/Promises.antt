@@ -3,6 +3,7 @@
 use Rattle.std.specs.Prelude.{ℕ, ◌≡◌, ◌≤◌, ◌<◌, ◌+◌, ◌*◌, ◌/◌, ◌^◌, ◌⊎◌, List, Option, Some, None, length, get_or, take, false, true, pos}
 use Rattle.std.specs.Float.{fin}
 use Rattle.std.specs.List.{list_any}
+use Rattle.refusals.specs.Answer.{completed}
 use Rattle.words.specs.Lists.{part_of}
 use Rattle.words.specs.Words.{Bytes}
 use Rattle.records.specs.Record.{kind, sine, cosine, record_at, instructions_of}
@@ -12,8 +13,8 @@ use Rattle.records.specs.declared.Instruction.{Instruction}
 use Rattle.records.specs.declared.Instruction.TheVariants.{DormantBranch}
 use Rattle.plan_spec.specs.Rows.{measurement_words, rotation_words}
 use Rattle.plan_spec.specs.WholeWorks.{without_quotient}
-use Rattle.plan_spec.specs.Walk.{Walk, start, finished, walk_from}
-use Rattle.plan_spec.specs.Plan.{Plan, planned, unread, plan_of}
+use Rattle.plan_spec.specs.Walk.{Walk, start, walk_from}
+use Rattle.plan_spec.specs.Plan.{Plan, unread, plan_of}
 use Rattle.plan_spec.specs.Connectivity.{Connected, Replayed, listed_by, replay_after}
 use Rattle.plan_spec.specs.Sources.{Sources, Listed, SourcesListed}
 use Rattle.plan_spec.specs.Groups.{GroupsListed}
@@ -44,7 +45,7 @@ OfReadPlans P = OfPlans λ h ws p. IsRead h → P h ws p
 
 -- p is the definition's plan of this program, with buffers of these lengths
 abbrev pub IsPlanOf : Head → List ℕ → Buffers → Plan → Type 0
-IsPlanOf h ws before p = plan_of h ws (lengths_of before) ≡ planned p
+IsPlanOf h ws before p = plan_of h ws (lengths_of before) ≡ completed p
 
 -- ---- components
 
@@ -182,7 +183,7 @@ RoomIsEnough =
 -- the state in which the definition's walk comes to record i
 abbrev pub ComesTo : Head → List ℕ → ℕ → Walk → Type 0
 ComesTo h ws i w =
-    walk_from h.ceiling 0 (start h.initial_k) (take i (instructions_of ws)) ≡ finished w
+    walk_from h.ceiling 0 (start h.initial_k) (take i (instructions_of ws)) ≡ completed w
 
 -- the definition's walk comes to no state against which the Rust guards
 abbrev pub GuardsNeverFail : Type 0

@@ -1,8 +1,9 @@
 -- The seven lent buffers, which are the six outputs of a `StoredOutputs` and the groups: their
 -- words, their lengths, and what they hold afterwards.
 use Rattle.std.specs.Prelude.{ℕ, ◌≡◌, List, [], length, take}
+use Rattle.refusals.specs.Answer.{completed, refused_at}
 use Rattle.words.specs.Lists.{padded}
-use Rattle.plan_spec.specs.Plan.{Lengths, Result, planned, refused_at}
+use Rattle.plan_spec.specs.Plan.{Lengths, Result}
 use Rattle.plan_buffers.specs.declared.StoredOutputs.{StoredOutputs}
 use Rattle.plan_buffers.specs.declared.WordCounts.{WordCounts}
 
@@ -82,7 +83,7 @@ first_words used used_groups b = record {
 
 -- a plan's words; a refusal has none: "no plan, all seven outputs zero"
 abbrev pub result_words : Result → Buffers
-result_words (planned p) = record {
+result_words (completed p) = record {
   steps = p.steps;
   merges = p.merges;
   sizes = p.sizes;

@@ -3,7 +3,8 @@ use Rattle.std.specs.Prelude.{Ok}
 use mathlib.Core.Path.{◌≡◌, refl}
 use Prim.Native.Nat.{ℕ}
 use native.Mathlib.Omega.{arith}
-use Rattle.plan_spec.specs.Plan.{Plan, Result, planned, refused_at}
+use Rattle.refusals.specs.Answer.{completed, refused_at}
+use Rattle.plan_spec.specs.Plan.{Plan, Result}
 use Rattle.answer.specs.declared.ActiveComponentPlan.{ActiveComponentPlan}
 use Rattle.answer.specs.Outcome.{outcome_of, used_in, outcome_in}
 use Rattle.stored_plan.specs.Stored.{scalars_of}
@@ -11,8 +12,8 @@ use Rattle.plan_file.specs.Writing.{scalars_in}
 
 -- the definition's plan, with its scalar words and its counts
 pub found : (result : Result) (r : ActiveComponentPlan) → outcome_of (Ok r) ≡ outcome_in result
-    → (p : Plan) × (result ≡ planned p) × (scalars_in r ≡ scalars_of p) × (r.used ≡ used_in p)
-found (planned p) r e =
+    → (p : Plan) × (result ≡ completed p) × (scalars_in r ≡ scalars_of p) × (r.used ≡ used_in p)
+found (completed p) r e =
     let selected : r.selected ≡ p.selected = cc in
     let initial : r.initial_components ≡ p.initial_components = cc in
     let count : r.component_count ≡ p.component_count = cc in

@@ -4,7 +4,8 @@ use mathlib.Core.Path.{◌≡◌, refl}
 use mathlib.Core.List.{List, [], ◌∷◌, ◌++◌, map}
 use Prim.Native.Nat.{ℕ, ◌-◌, ◌/◌, ◌^◌}
 use lib.ListN.{length}
-use Rattle.plan_spec.specs.Plan.{Result, planned, refused_at, plan_of}
+use Rattle.refusals.specs.Answer.{completed, refused_at}
+use Rattle.plan_spec.specs.Plan.{Result, plan_of}
 use Rattle.plan_spec.specs.Circuits.{enough}
 
 -- an answer, for a reader: a refusal's number and index, or the dense peak and the longest sizes
@@ -13,7 +14,7 @@ pub data Told : Type 0 where
   plan : (dense_peak : ℕ) → (sizes : List ℕ) → Told
 
 abbrev told : Result → Told
-told (planned p) = plan p.dense_peak p.sizes
+told (completed p) = plan p.dense_peak p.sizes
 told (refused_at number index) = refusal number index
 
 pub record Case : Type 0 where

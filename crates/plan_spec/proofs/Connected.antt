@@ -8,6 +8,7 @@ use Prim.Native.Nat.{ℕ, suc, ◌+◌, ◌-◌, ◌*◌, ◌^◌, ◌≤◌, �
 use native.Mathlib.Omega.{arith}
 use lib.ListN.{length, get_or, take, drop, length-take, get_or-eq_default}
 use lib.Seq.{drop-cons}
+use Rattle.refusals.specs.Answer.{completed}
 use borrow.Author.Tests.{eq-eqb, le-ltb}
 use Rattle.words.specs.Lists.{numbers_from}
 use Rattle.records.specs.Record.{instructions_of}
@@ -17,7 +18,7 @@ use Rattle.records.specs.declared.Instruction.TheVariants.{DormantBranch}
 use Rattle.plan_spec.specs.Lists.{total, concat}
 use Rattle.plan_spec.specs.Components.{allocated_for}
 use Rattle.plan_spec.specs.Walk.{Walk, start}
-use Rattle.plan_spec.specs.Plan.{Lengths, Plan, planned, unread, plan_from, plan_of}
+use Rattle.plan_spec.specs.Plan.{Lengths, Plan, unread, plan_from, plan_of}
 use Rattle.plan_spec.specs.Connectivity.{occurrences, Member, NoRepeats, Rearranged, greatest, ActiveOrder, active_start, active_after, Linked, live_at, moments, replay_after, replay_members, SameComponent, longest_of, JoinClaim, promotions_in, measurements_in, Connected}
 use Rattle.plan_spec.proofs.Steps.{Stepped, Run, more, run_split}
 use Rattle.plan_spec.proofs.Classes.{class_linked}
@@ -202,7 +203,7 @@ pub read_head : (h : Head) → 8 ≤ h.max_k → h.nexpvals ≡ 0 → unread h �
 read_head h wide none = ap₂ (λ (a b : Bool). a || not b) (le-ltb h.max_k 8 wide) (eq-eqb h.nexpvals 0 none)
 
 -- Demand 3
-pub connected : (h : Head) (ws : List ℕ) (l : Lengths) (p : Plan) → plan_of h ws l ≡ planned p → 8 ≤ h.max_k → h.nexpvals ≡ 0
+pub connected : (h : Head) (ws : List ℕ) (l : Lengths) (p : Plan) → plan_of h ws l ≡ completed p → 8 ≤ h.max_k → h.nexpvals ≡ 0
     → (m : ℕ) → m ≤ length (instructions_of ws) → Connected h.initial_k (instructions_of ws) p m
 connected h ws l p e wide none m within =
     let a = accepted h ws l p (read_head h wide none) e in

@@ -7,6 +7,7 @@ use Prim.Native.Nat.{ℕ, zero, suc, ◌+◌, ◌-◌, ◌≤◌}
 use native.Mathlib.Omega.{arith}
 use lib.ListN.{length, get_or, take, drop, replicate}
 use lib.Seq.{get_or-drop, drop-drop, take-append_seam, drop-append_seam}
+use Rattle.refusals.specs.Answer.{completed}
 use Rattle.words.proofs.Numbers.{same_or_not}
 use Rattle.words.proofs.Padded.{zeros_at}
 use Rattle.records.specs.Record.{instructions_of}
@@ -15,7 +16,7 @@ use Rattle.records.specs.declared.Instruction.{Instruction}
 use Rattle.plan_spec.specs.Lists.{concat}
 use Rattle.plan_spec.specs.Components.{members_of}
 use Rattle.plan_spec.specs.Walk.{Walk, start}
-use Rattle.plan_spec.specs.Plan.{Lengths, Plan, planned, groups_of, plan_from, plan_of}
+use Rattle.plan_spec.specs.Plan.{Lengths, Plan, groups_of, plan_from, plan_of}
 use Rattle.plan_spec.specs.Connectivity.{Member, Replayed, active_start, replay_after}
 use Rattle.plan_spec.specs.Sources.{Ascending, none, more}
 use Rattle.plan_spec.specs.Groups.{Live, group_of, group_start, group_count, group_members, live_count, live_below, GroupsListed}
@@ -205,7 +206,7 @@ accepted_groups h ws l p a n =
     (run_groups h.ceiling h.initial_k a.dense_peak (instructions_of ws) a.last a.run n)
 
 -- CR 7 for every accepted program that was read
-pub groups_in_order : (h : Head) (ws : List ℕ) (l : Lengths) (p : Plan) → plan_of h ws l ≡ planned p → 8 ≤ h.max_k → h.nexpvals ≡ 0
+pub groups_in_order : (h : Head) (ws : List ℕ) (l : Lengths) (p : Plan) → plan_of h ws l ≡ completed p → 8 ≤ h.max_k → h.nexpvals ≡ 0
     → GroupsListed (replay_after p (length (instructions_of ws))) 0 p.groups
 groups_in_order h ws l p e wide none_read =
     subst (λ (words : List ℕ). GroupsListed (replay_after p (length (instructions_of ws))) 0 words) (append-nil p.groups)

@@ -15,21 +15,21 @@ use lib.Ieee.{Float}
 use Rattle.words.specs.Lists.{Begins}
 use Rattle.words.proofs.Patches.{begins_refl, begins_trans}
 use Rattle.kernels.specs.Bits.{bit_at, dimension}
-use Rattle.refusals.specs.Answer.{Answer, given, refused}
+use Rattle.refusals.specs.Answer.{Answer, given, refused, completed, refused_at}
 use Rattle.kernels.specs.Active.{of_dimension, rotation, measurement, imaginary}
 use Rattle.kernels.specs.declared.active.ActivePauliAction.{ActivePauliAction}
 use Rattle.kernels.specs.declared.active.PrecomputedActivePauliRotationKernel.{PrecomputedActivePauliRotationKernel}
 use Rattle.kernels.specs.declared.active.PrecomputedActivePauliMeasurementKernel.{PrecomputedActivePauliMeasurementKernel}
 use Rattle.records.specs.Record.{instructions_of}
-use Rattle.records.specs.Pass.{Checked, Passed, Refused, record_pass}
+use Rattle.records.specs.Pass.{Checked, Passed, record_pass}
 use Rattle.records.specs.declared.Head.{Head}
 use Rattle.records.specs.declared.Instruction.{Instruction}
 use Rattle.records.specs.declared.Instruction.TheVariants.{Rotation, Promotion, RecordMeasurement, RecordDetector, Measurement, Expectation, DormantBranch}
 use Rattle.records.proofs.Laws.{refused_in, instructions_length}
 use Rattle.plan_spec.specs.Lists.{concat, is_in, place_of, remove_at}
 use Rattle.plan_spec.specs.Rows.{row_merge_offset, row_merge_count, step_row}
-use Rattle.plan_spec.specs.Walk.{Written, Walk, join_of, local_action, rotation_row, measurement_row, with_step, refuse, when_given, is_none, no_step, ignored_step, promotion_step, rotation_step, measurement_step, rotate, measure, step, Walked, finished, stopped, onward, start, walk_from}
-use Rattle.plan_spec.specs.Plan.{Lengths, Plan, Result, planned, refused_at, unread, words_refused, buffers_refused, after_walk, after_pass, refuse_all, plan_read, max_dimension, for_dense_peak, ceiling_refused, plan_of}
+use Rattle.plan_spec.specs.Walk.{Written, Walk, join_of, local_action, rotation_row, measurement_row, with_step, refuse, when_given, is_none, no_step, ignored_step, promotion_step, rotation_step, measurement_step, rotate, measure, step, Walked, onward, start, walk_from}
+use Rattle.plan_spec.specs.Plan.{Lengths, Plan, Result, unread, words_refused, buffers_refused, after_walk, after_pass, refuse_all, plan_read, max_dimension, for_dense_peak, ceiling_refused, plan_of}
 use Rattle.plan_spec.proofs.Steps.{Stepped, ignored, rotated, promoted, measured, recorded, detected, expected, branched, Run, done, more}
 
 -- ---- lists that go on
@@ -377,14 +377,14 @@ number_step limit w Expectation m e = number_given e
 number_step limit w DormantBranch m e = number_given e
 
 -- a walk stops at one of its records, with a number from 11 to 20
-pub stopped_index : (limit index : ℕ) (w : Walk) (is : List Instruction) (n j : ℕ) → walk_from limit index w is ≡ stopped n j
+pub stopped_index : (limit index : ℕ) (w : Walk) (is : List Instruction) (n j : ℕ) → walk_from limit index w is ≡ refused_at n j
     → (index ≤ j) × (j < index + length is) × (11 ≤ n) × (n ≤ 20)
 unfolding walk_from
 stopped_index limit index w [] n j e = let z : ◌≡◌ {A = ℕ} 0 1 = cc in absurd (omega arith)
 stopped_index limit index w (i ∷ is) n j e = go (step limit w i) refl e (λ v. stopped_index limit (suc index) v is n j)
   where
-    go : (x : Answer Walk) → step limit w i ≡ x → onward x index (λ v. walk_from limit (suc index) v is) ≡ stopped n j
-        → ((v : Walk) → walk_from limit (suc index) v is ≡ stopped n j → (suc index ≤ j) × (j < suc index + length is) × (11 ≤ n) × (n ≤ 20))
+    go : (x : Answer Walk) → step limit w i ≡ x → onward x index (λ v. walk_from limit (suc index) v is) ≡ refused_at n j
+        → ((v : Walk) → walk_from limit (suc index) v is ≡ refused_at n j → (suc index ≤ j) × (j < suc index + length is) × (11 ≤ n) × (n ≤ 20))
         → (index ≤ j) × (j < index + suc (length is)) × (11 ≤ n) × (n ≤ 20)
     go (given v) p f later = let r = later v f in (omega (arith, r.0), omega (arith, r.1), r.2, r.3)
     go (refused m) p f later =
@@ -403,7 +403,7 @@ indexed_first : (ws : List ℕ) (number : ℕ) → Indexed ws (refused_at number
 indexed_first ws number n j e = inl (let z : 0 ≡ j = cc in omega arith)
 
 -- a plan is no refusal
-indexed_plan : (ws : List ℕ) (p : Plan) → Indexed ws (planned p)
+indexed_plan : (ws : List ℕ) (p : Plan) → Indexed ws (completed p)
 indexed_plan ws p n j e = let z : ◌≡◌ {A = ℕ} 0 1 = cc in absurd (omega arith)
 
 -- a test of head and buffers
@@ -416,8 +416,8 @@ indexed_walk : (limit initial dense_peak : ℕ) (ws : List ℕ) → Indexed ws (
 indexed_walk limit initial dense_peak ws = go (walk_from limit 0 (start initial) (instructions_of ws)) refl
   where
     go : (x : Walked) → walk_from limit 0 (start initial) (instructions_of ws) ≡ x → Indexed ws (after_walk initial dense_peak x)
-    go (finished w) f n j e = indexed_plan ws _ n j e
-    go (stopped m i) f n j e =
+    go (completed w) f n j e = indexed_plan ws _ n j e
+    go (refused_at m i) f n j e =
         let s = stopped_index limit 0 (start initial) (instructions_of ws) m i f in
         let l = instructions_length ws in
         let same : i ≡ j = cc in inr (omega (arith, s.1))
@@ -427,8 +427,8 @@ indexed_pass : (limit initial dense_peak : ℕ) (ws : List ℕ) → Indexed ws (
 indexed_pass limit initial dense_peak ws = go (record_pass initial ws) refl
   where
     go : (x : Checked) → record_pass initial ws ≡ x → Indexed ws (after_pass limit initial dense_peak ws x)
-    go Passed f n j e = indexed_walk limit initial dense_peak ws n j e
-    go (Refused m i) f n j e =
+    go (completed passed) f n j e = indexed_walk limit initial dense_peak ws n j e
+    go (refused_at m i) f n j e =
         let s = refused_in initial ws m i f in
         let same : i ≡ j = cc in inr (omega (arith, s.index_below))
 
@@ -444,7 +444,7 @@ refused_index h ws l = indexed_refuse ws (ceiling_refused h) 24 _ (go (max_dimen
         (indexed_refuse ws (ltb 512 h.initial_k) 4 _
         (indexed_pass h.ceiling h.initial_k dense_peak ws)))
 
-    either : (t : Bool) (p : Plan) (r : Result) → Indexed ws r → Indexed ws (cond t (planned p) r)
+    either : (t : Bool) (p : Plan) (r : Result) → Indexed ws r → Indexed ws (cond t (completed p) r)
     either true p r i = indexed_plan ws p
     either false p r i = i
 

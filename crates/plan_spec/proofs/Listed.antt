@@ -6,6 +6,7 @@ use mathlib.Core.List.{List, [], ◌∷◌, ◌++◌}
 use Prim.Native.Nat.{ℕ, suc, ◌+◌, ◌*◌, ◌/◌, ◌≤◌, ◌<◌}
 use native.Mathlib.Omega.{arith}
 use lib.ListN.{length, get_or, take, drop, length-append}
+use Rattle.refusals.specs.Answer.{completed}
 use Rattle.words.specs.Lists.{Begins}
 use Rattle.words.proofs.Numbers.{same_or_not}
 use Rattle.words.proofs.Patches.{begins_length}
@@ -17,7 +18,7 @@ use Rattle.records.specs.declared.Instruction.TheVariants.{Rotation, Promotion, 
 use Rattle.plan_spec.specs.Rows.{row_component, row_merge_offset, row_merge_count, step_row}
 use Rattle.plan_spec.specs.Components.{members_of}
 use Rattle.plan_spec.specs.Walk.{Written, Walk, join_of, start, no_step, ignored_step, promotion_step, rotation_step, measurement_step, row_head, rotation_row, measurement_row}
-use Rattle.plan_spec.specs.Plan.{Lengths, Plan, planned, plan_from, plan_of}
+use Rattle.plan_spec.specs.Plan.{Lengths, Plan, plan_from, plan_of}
 use Rattle.plan_spec.specs.Connectivity.{ActiveOrder, active_start, active_after, Replayed, kind_at, rotation_at, measurement_at, listed_by, replay_after}
 use Rattle.plan_spec.specs.Sources.{Sources, Listed, NoPart, ListedClaim, RowOf, SourcesListed}
 use Rattle.plan_spec.proofs.Steps.{Stepped, ignored, rotated, promoted, measured, recorded, detected, expected, branched, Run, done, more}
@@ -175,7 +176,7 @@ accepted_listed h ws l p a =
     (run_listed h.ceiling k a.dense_peak is a.last run))
 
 -- CR 3 for every accepted program that was read
-pub listed : (h : Head) (ws : List ℕ) (l : Lengths) (p : Plan) → plan_of h ws l ≡ planned p → 8 ≤ h.max_k → h.nexpvals ≡ 0
+pub listed : (h : Head) (ws : List ℕ) (l : Lengths) (p : Plan) → plan_of h ws l ≡ completed p → 8 ≤ h.max_k → h.nexpvals ≡ 0
     → SourcesListed h.initial_k (instructions_of ws) p (length p.rotations / 21) (length p.measurements / 19)
 listed h ws l p e wide none = accepted_listed h ws l p (accepted h ws l p (read_head h wide none) e)
 

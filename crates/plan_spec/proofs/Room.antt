@@ -15,6 +15,7 @@ use lib.IntN.{pos}
 use lib.ListN.{length, get_or, set, length-set, length-append, length-map}
 use lib.Seq.{get_or-set_other, take-length}
 use lib.Pow.{pow_mono, pow-add}
+use Rattle.refusals.specs.Answer.{completed, refused_at}
 use borrow.Author.Tests.{ltb-false, ne_eqb}
 use Rattle.words.specs.Lists.{numbers_from}
 use Rattle.words.proofs.Numbers.{same_or_not, length-numbers}
@@ -30,7 +31,7 @@ use Rattle.plan_spec.specs.Lists.{remove_at, total, concat}
 use Rattle.plan_spec.specs.Components.{gathered, emptied, joined, amplitudes, live_dimension}
 use Rattle.plan_spec.specs.WholeWorks.{without_quotient}
 use Rattle.plan_spec.specs.Walk.{Written, Walk, Join, join_of, rotation_row, measurement_row, start, no_step, ignored_step, promotion_step, rotation_step, measurement_step}
-use Rattle.plan_spec.specs.Plan.{Lengths, Plan, planned, unread, unread_plan, groups_of, plan_from, buffers_refused, max_dimension, for_dense_peak, plan_of, Result, refused_at, held_after}
+use Rattle.plan_spec.specs.Plan.{Lengths, Plan, unread, unread_plan, groups_of, plan_from, buffers_refused, max_dimension, for_dense_peak, plan_of, Result, held_after}
 use Rattle.plan_spec.specs.Connectivity.{occurrences, Member, NoRepeats, ActiveOrder, active_start, active_step, active_after, promotions_in}
 use Rattle.plan_spec.specs.Laws.{Fits, FitsIn}
 use Rattle.plan_spec.proofs.Counting.{one_here, none_here, member_head, member_tail, length_remove_at}
@@ -484,14 +485,14 @@ passed_promotions k ws h e =
 -- ---- plans
 
 -- a plan that reads nothing is the empty one
-pub unread_planned : (h : Head) (ws : List ℕ) (l : Lengths) (p : Plan) → unread h ≡ true → plan_of h ws l ≡ planned p
+pub unread_planned : (h : Head) (ws : List ℕ) (l : Lengths) (p : Plan) → unread h ≡ true → plan_of h ws l ≡ completed p
     → (dense_peak : ℕ) × (p ≡ unread_plan h.initial_k dense_peak)
 unread_planned h ws l p u e = go (max_dimension h) (ceiling_passed h ws l p e).1
   where
-    go : (d : Option ℕ) → for_dense_peak h ws l d ≡ planned p → (dense_peak : ℕ) × (p ≡ unread_plan h.initial_k dense_peak)
+    go : (d : Option ℕ) → for_dense_peak h ws l d ≡ completed p → (dense_peak : ℕ) × (p ≡ unread_plan h.initial_k dense_peak)
     go None e = let z : ◌≡◌ {A = ℕ} 0 1 = cc in absurd (omega arith)
     go (Some dense_peak) e =
-        let f : planned (unread_plan h.initial_k dense_peak) ≡ planned p = sym (cond_yes (unread h) _ _ u) ∙ e in
+        let f : completed (unread_plan h.initial_k dense_peak) ≡ completed p = sym (cond_yes (unread h) _ _ u) ∙ e in
         let same : p ≡ unread_plan h.initial_k dense_peak = cc in (dense_peak, same)
 
 -- a plan that read nothing, field by field: unselected, all zero but the two given, and no quotient
@@ -582,7 +583,7 @@ lent_enough n l p e f =
       groups = omega (arith, f.groups, m.groups);
     }
 
-module _ (h : Head) (ws : List ℕ) (l : Lengths) (p : Plan) (e : plan_of h ws l ≡ planned p) where
+module _ (h : Head) (ws : List ℕ) (l : Lengths) (p : Plan) (e : plan_of h ws l ≡ completed p) where
   either : (t : Bool) → unread h ≡ t → Fits p (length ws / 8) × FitsIn p l
   either true u =
       let q = unread_planned h ws l p u e in
@@ -603,6 +604,6 @@ module _ (h : Head) (ws : List ℕ) (l : Lengths) (p : Plan) (e : plan_of h ws l
   pub plan_fits_in : FitsIn p l
   plan_fits_in = (either (unread h) refl).1
 
-pub held_length : (n : ℕ) (output : Plan → List ℕ) (r : Result) → ((p : Plan) → r ≡ planned p → length (output p) ≤ n) → length (held_after n output r) ≡ n
-held_length n output (planned p) h = let all = padded_length n (output p) in let few = h p refl in omega arith
+pub held_length : (n : ℕ) (output : Plan → List ℕ) (r : Result) → ((p : Plan) → r ≡ completed p → length (output p) ≤ n) → length (held_after n output r) ≡ n
+held_length n output (completed p) h = let all = padded_length n (output p) in let few = h p refl in omega arith
 held_length n output (refused_at number index) h = let all = padded_length n [] in omega arith

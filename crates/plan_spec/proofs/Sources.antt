@@ -6,10 +6,11 @@ use mathlib.Core.List.{List, [], ◌∷◌}
 use Prim.Native.Nat.{ℕ, ◌<◌}
 use native.Mathlib.Omega.{arith}
 use lib.ListN.{length, get_or, take}
+use Rattle.refusals.specs.Answer.{completed}
 use Rattle.records.specs.declared.Instruction.{Instruction}
 use Rattle.plan_spec.specs.Lists.{without}
 use Rattle.plan_spec.specs.Components.{members_of, support, or_first, reached, touched, largest, sources_of}
-use Rattle.plan_spec.specs.Walk.{Walk, finished, start, walk_from, join_of}
+use Rattle.plan_spec.specs.Walk.{Walk, start, walk_from, join_of}
 use Rattle.plan_spec.specs.Connectivity.{Member, NoRepeats, ActiveOrder, active_start, Replayed}
 use Rattle.plan_spec.specs.Sources.{Touched, position, first, Ascending, Sources, JoinsListed}
 use Rattle.plan_spec.proofs.Counting.{one_here, member_head, member_tail, member_cons}
@@ -105,7 +106,7 @@ tracked_sources w r t x z active =
     (λ c m. let s = touched_reached w.order (members_of cs) x z c m in holds_source cs (active_of w r) h x z c s.0 (listed_below cs c s.0 s.2) s.1 s.2)
 
 -- CR 3 for every join of the walk: in each state that it reaches, whatever the next record's masks are
-pub walk_sources : (limit k : ℕ) (is : List Instruction) (w : Walk) → walk_from limit 0 (start k) is ≡ finished w → JoinsListed w
+pub walk_sources : (limit k : ℕ) (is : List Instruction) (w : Walk) → walk_from limit 0 (start k) is ≡ completed w → JoinsListed w
 walk_sources limit k is w e = tracked_sources w _ (run_tracked (active_start k) (run_of_walk limit 0 (start k) w is e) (start_tracked k))
 
 -- ---- one list only

@@ -11,14 +11,14 @@ use lib.ListN.{length, get_or, take, drop}
 use lib.Ieee.{Float}
 use borrow.Author.Tests.{eqb-true, eqb-false, ltb-true, not-false}
 use Rattle.kernels.specs.Bits.{dimension}
-use Rattle.refusals.specs.Answer.{Answer, given, refused}
+use Rattle.refusals.specs.Answer.{Answer, given, refused, completed}
 use Rattle.kernels.specs.Active.{rotation, measurement}
 use Rattle.kernels.specs.declared.active.PrecomputedActivePauliRotationKernel.{PrecomputedActivePauliRotationKernel}
 use Rattle.kernels.specs.declared.active.PrecomputedActivePauliMeasurementKernel.{PrecomputedActivePauliMeasurementKernel}
 use Rattle.records.specs.declared.Instruction.{Instruction}
 use Rattle.records.specs.declared.Instruction.TheVariants.{Rotation, Promotion, RecordMeasurement, RecordDetector, Measurement, Expectation, DormantBranch}
 use Rattle.plan_spec.specs.Lists.{place_of}
-use Rattle.plan_spec.specs.Walk.{Walk, join_of, local_action, refuse, when_given, is_none, too_large, no_step, ignored_step, promotion_step, rotation_step, measurement_step, rotate, measure, step, Walked, finished, onward, walk_from}
+use Rattle.plan_spec.specs.Walk.{Walk, join_of, local_action, refuse, when_given, is_none, too_large, no_step, ignored_step, promotion_step, rotation_step, measurement_step, rotate, measure, step, Walked, onward, walk_from}
 use Rattle.plan_spec.specs.Connectivity.{Member}
 use Rattle.plan_spec.proofs.Counting.{is_in_member}
 
@@ -141,11 +141,11 @@ pub data Run (limit : ℕ) : Walk → List Instruction → Walk → Type 0 where
   done : (w : Walk) → Run limit w [] w
   more : {w v u : Walk} {i : Instruction} {is : List Instruction} → Stepped limit w i v → Run limit v is u → Run limit w (i ∷ is) u
 
-pub onward_finished : (x : Answer Walk) (index : ℕ) (f : Walk → Walked) (u : Walk) → onward x index f ≡ finished u → (v : Walk) × (x ≡ given v) × (f v ≡ finished u)
+pub onward_finished : (x : Answer Walk) (index : ℕ) (f : Walk → Walked) (u : Walk) → onward x index f ≡ completed u → (v : Walk) × (x ≡ given v) × (f v ≡ completed u)
 onward_finished (given v) index f u e = (v, refl, e)
 onward_finished (refused n) index f u e = let z : ◌≡◌ {A = ℕ} 0 1 = cc in absurd (omega arith)
 
-pub run_of_walk : (limit index : ℕ) (w u : Walk) (is : List Instruction) → walk_from limit index w is ≡ finished u → Run limit w is u
+pub run_of_walk : (limit index : ℕ) (w u : Walk) (is : List Instruction) → walk_from limit index w is ≡ completed u → Run limit w is u
 unfolding walk_from
 run_of_walk limit index w u [] e =
     let same : w ≡ u = cc in subst (λ (v : Walk). Run limit w [] v) same (done w)

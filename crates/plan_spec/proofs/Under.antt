@@ -13,14 +13,14 @@ use borrow.Author.Tests.{lt-ltb, le-ltb, ltb-false}
 use Rattle.words.proofs.Numbers.{same_or_not}
 use Rattle.words.proofs.Padded.{zeroed_at}
 use Rattle.kernels.specs.Bits.{dimension}
-use Rattle.refusals.specs.Answer.{Answer, given, refused}
+use Rattle.refusals.specs.Answer.{Answer, given, refused, completed}
 use Rattle.kernels.specs.Active.{of_dimension, rotation_kernel, nondiagonal, diagonal}
 use Rattle.records.specs.Record.{instructions_of}
 use Rattle.records.specs.declared.Head.{Head}
 use Rattle.records.specs.declared.Instruction.{Instruction}
 use Rattle.plan_spec.specs.Lists.{is_in, place_of}
-use Rattle.plan_spec.specs.Walk.{Walk, join_of, local_action, refuse, when_given, is_none, start, ignored_step, rotation_step, measurement_step, rotate, measure, step, finished, onward, walk_from}
-use Rattle.plan_spec.specs.Plan.{Lengths, Plan, planned, unread, plan_from, unread_plan, refuse_all, after_walk, plan_read, for_dense_peak, ceiling_refused, plan_of}
+use Rattle.plan_spec.specs.Walk.{Walk, join_of, local_action, refuse, when_given, is_none, start, ignored_step, rotation_step, measurement_step, rotate, measure, step, onward, walk_from}
+use Rattle.plan_spec.specs.Plan.{Lengths, Plan, unread, plan_from, unread_plan, refuse_all, after_walk, plan_read, for_dense_peak, ceiling_refused, plan_of}
 use Rattle.plan_spec.specs.Connectivity.{ActiveOrder, active_start, active_step, Replayed, replay_after, replay_joined, longest_of}
 use Rattle.plan_spec.specs.Laws.{HasDimension, HasDimensions, under, HoldsPlan}
 use Rattle.plan_spec.proofs.Steps.{cond_yes, cond_no, dimension_below, Stepped, ignored, rotated, promoted, measured, recorded, detected, expected, branched, Run, done, more, onward_finished, stepped, run_of_walk}
@@ -125,8 +125,8 @@ module _ (ceiling other : ℕ) where
       let e = next c in
       let f = run_longer (active_step r i) rest (step_tracked r s t) (long_after w v (joined_components s) next) c in omega arith
 
-  walk_same : (index : ℕ) (w u : Walk) (is : List Instruction) (r : ActiveOrder) → Tracked w r → Long w → walk_from ceiling index w is ≡ finished u
-      → ((c : ℕ) → get_or u.longest c 0 < other) → walk_from other index w is ≡ finished u
+  walk_same : (index : ℕ) (w u : Walk) (is : List Instruction) (r : ActiveOrder) → Tracked w r → Long w → walk_from ceiling index w is ≡ completed u
+      → ((c : ℕ) → get_or u.longest c 0 < other) → walk_from other index w is ≡ completed u
   unfolding walk_from
   walk_same index w u [] r t long e all = e
   walk_same index w u (i ∷ is) r t long e all =
@@ -152,7 +152,7 @@ given_below ceiling k d e = dimension_below ceiling k (ap is_none e)
 longest_below : {ceiling : ℕ} (k : ℕ) {is : List Instruction} {u : Walk} → 1 < ceiling → Run ceiling (start k) is u → (c : ℕ) → get_or u.longest c 0 < min ceiling 64
 longest_below {ceiling = ceiling} k least run = reached_longest (min ceiling 64) (omega arith) (omega arith) k run
 
-module _ (h : Head) (ws : List ℕ) (l : Lengths) (p : Plan) (e : plan_of h ws l ≡ planned p) where
+module _ (h : Head) (ws : List ℕ) (l : Lengths) (p : Plan) (e : plan_of h ws l ≡ completed p) where
   -- its ceiling is one of 1 to 62
   bounds : (1 ≤ h.ceiling) × (h.ceiling ≤ 62)
   bounds =
@@ -163,7 +163,7 @@ module _ (h : Head) (ws : List ℕ) (l : Lengths) (p : Plan) (e : plan_of h ws l
   peak_given : (d : ℕ) × (dimension h.ceiling h.max_k ≡ Some d)
   peak_given = go (dimension h.ceiling h.max_k) refl (ceiling_passed h ws l p e).1
     where
-      go : (o : Option ℕ) → dimension h.ceiling h.max_k ≡ o → for_dense_peak h ws l o ≡ planned p → (d : ℕ) × (dimension h.ceiling h.max_k ≡ Some d)
+      go : (o : Option ℕ) → dimension h.ceiling h.max_k ≡ o → for_dense_peak h ws l o ≡ completed p → (d : ℕ) × (dimension h.ceiling h.max_k ≡ Some d)
       go None f g = let z : ◌≡◌ {A = ℕ} 0 1 = cc in absurd (omega arith)
       go (Some d) f g = (d, f)
 
@@ -211,24 +211,24 @@ module _ (h : Head) (ws : List ℕ) (l : Lengths) (p : Plan) (e : plan_of h ws l
     same_peak = same_dimension h.ceiling ceiling h.max_k max_is_below max_fits holds.max_below
 
     -- the walk ends in the same state, so the same plan is read
-    walks : (a : Accepted h ws l p) → walk_from ceiling 0 (start h.initial_k) (instructions_of ws) ≡ finished a.last
+    walks : (a : Accepted h ws l p) → walk_from ceiling 0 (start h.initial_k) (instructions_of ws) ≡ completed a.last
     unfolding plan_from
     walks a =
         walk_same h.ceiling ceiling 0 (start h.initial_k) a.last (instructions_of ws) (active_start h.initial_k) (start_tracked h.initial_k) (start_is_long h.initial_k) a.walked
         (λ c. subst (λ (x : Plan). get_or x.sizes c 0 < ceiling) a.plan_is (holds.sizes_below c))
 
-    reads : (a : Accepted h ws l p) → plan_read (under ceiling h) ws l a.dense_peak ≡ planned p
+    reads : (a : Accepted h ws l p) → plan_read (under ceiling h) ws l a.dense_peak ≡ completed p
     unfolding plan_read
     reads a =
         let few = le-ltb 512 h.initial_k a.initial_small in
         let over : plan_read (under ceiling h) ws l a.dense_peak ≡ after_walk h.initial_k a.dense_peak (walk_from ceiling 0 (start h.initial_k) (instructions_of ws)) =
         simp (a.words, a.buffers, few, a.passed) in
-        over ∙ ap (after_walk h.initial_k a.dense_peak) (walks a) ∙ ap planned (sym a.plan_is)
+        over ∙ ap (after_walk h.initial_k a.dense_peak) (walks a) ∙ ap completed (sym a.plan_is)
 
-    behind : for_dense_peak (under ceiling h) ws l (dimension h.ceiling h.max_k) ≡ planned p
+    behind : for_dense_peak (under ceiling h) ws l (dimension h.ceiling h.max_k) ≡ completed p
     behind = go (unread h) refl
       where
-        go : (t : Bool) → unread h ≡ t → for_dense_peak (under ceiling h) ws l (dimension h.ceiling h.max_k) ≡ planned p
+        go : (t : Bool) → unread h ≡ t → for_dense_peak (under ceiling h) ws l (dimension h.ceiling h.max_k) ≡ completed p
         go true u =
             ap (for_dense_peak (under ceiling h) ws l) peak_given.1 ∙ cond_yes (unread h) _ _ u
             ∙ sym (cond_yes (unread h) _ _ u) ∙ sym (ap (for_dense_peak h ws l) peak_given.1) ∙ (ceiling_passed h ws l p e).1
@@ -236,23 +236,23 @@ module _ (h : Head) (ws : List ℕ) (l : Lengths) (p : Plan) (e : plan_of h ws l
             let a = accepted h ws l p u e in
             ap (for_dense_peak (under ceiling h) ws l) a.dimension_given ∙ cond_no (unread h) _ _ u ∙ reads a
 
-    pub same_plan : plan_of (under ceiling h) ws l ≡ planned p
+    pub same_plan : plan_of (under ceiling h) ws l ≡ completed p
     unfolding plan_of
     same_plan =
         ap (λ (t : Bool). refuse_all t 24 (for_dense_peak (under ceiling h) ws l (dimension ceiling h.max_k))) not_refused
         ∙ ap (for_dense_peak (under ceiling h) ws l) same_peak ∙ behind
 
   -- so at 62, where the published Rust is the reference, each plan is what it is under its own ceiling
-  pub at_the_largest : plan_of (under 62 h) ws l ≡ planned p
+  pub at_the_largest : plan_of (under 62 h) ws l ≡ completed p
   at_the_largest =
       let b = bounds in
       same_plan 62 (record { least = omega arith; most = omega arith; max_below = (let m = max_is_below in omega arith); sizes_below = λ c. (let s = sizes_are_below c in omega arith) })
 
 -- under another ceiling a program with a plan has that plan or none, and has it only where the ceiling holds it
-pub no_other : (h : Head) (ws : List ℕ) (l : Lengths) (p : Plan) → plan_of h ws l ≡ planned p
-    → (ceiling : ℕ) (q : Plan) → plan_of (under ceiling h) ws l ≡ planned q → (q ≡ p) × HoldsPlan ceiling h p
+pub no_other : (h : Head) (ws : List ℕ) (l : Lengths) (p : Plan) → plan_of h ws l ≡ completed p
+    → (ceiling : ℕ) (q : Plan) → plan_of (under ceiling h) ws l ≡ completed q → (q ≡ p) × HoldsPlan ceiling h p
 no_other h ws l p e ceiling q f =
-    let both : planned q ≡ planned p = sym (at_the_largest (under ceiling h) ws l q f) ∙ at_the_largest h ws l p e in
+    let both : completed q ≡ completed p = sym (at_the_largest (under ceiling h) ws l q f) ∙ at_the_largest h ws l p e in
     let same : q ≡ p = cc in
     let held = plan_held (under ceiling h) ws l q f in (
       same,
@@ -295,7 +295,7 @@ run_dimensions ceiling k dense_peak is u least run =
       longest = λ c. let b = longest_below k least run c in dimension_at ceiling _ (omega arith) (omega arith);
     }
 
-pub plan_dimensions : (h : Head) (ws : List ℕ) (l : Lengths) (p : Plan) → plan_of h ws l ≡ planned p → 8 ≤ h.max_k → h.nexpvals ≡ 0
+pub plan_dimensions : (h : Head) (ws : List ℕ) (l : Lengths) (p : Plan) → plan_of h ws l ≡ completed p → 8 ≤ h.max_k → h.nexpvals ≡ 0
     → HasDimensions h.ceiling (length (instructions_of ws)) p
 plan_dimensions h ws l p e wide no-values =
     let a = accepted h ws l p (read_head h wide no-values) e in

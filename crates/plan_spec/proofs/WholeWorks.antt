@@ -13,6 +13,7 @@ use lib.ListN.{length, get_or, take, length-append}
 use lib.Pow.{pow_mono}
 use lib.IntN.{pos}
 use lib.Ieee.{Float, fin, binary64, add, mul, of_int, to_bits}
+use Rattle.refusals.specs.Answer.{completed}
 use borrow.Author.Tests.{ltb-true, ltb-false, lt-ltb, eqb-true, eqb-false}
 use Rattle.kernels.specs.Bits.{exp2}
 use Rattle.records.specs.Record.{instructions_of}
@@ -22,7 +23,7 @@ use Rattle.records.proofs.Laws.{instructions_length}
 use Rattle.plan_spec.specs.Components.{size_of, float_two, gathered, amplitudes, live_dimension, joining_cost}
 use Rattle.plan_spec.specs.WholeWorks.{WholeSums, whole_cost_from, whole_joining_cost, too_wide, without_quotient, with_quotient, quotient_of, whole_works_of}
 use Rattle.plan_spec.specs.Walk.{Walk, join_of, start, no_step, ignored_step, promotion_step, rotation_step, measurement_step}
-use Rattle.plan_spec.specs.Plan.{Lengths, Plan, planned, unread, unread_plan, plan_from, plan_of}
+use Rattle.plan_spec.specs.Plan.{Lengths, Plan, unread, unread_plan, plan_from, plan_of}
 use Rattle.plan_spec.specs.Connectivity.{Member, ActiveOrder, active_start, active_step, active_after}
 use Rattle.plan_spec.specs.Laws.{IsWhole, Agree, TooWideExactly}
 use Rattle.plan_spec.proofs.Counting.{member_head, member_tail}
@@ -292,7 +293,7 @@ unread_agree initial dense_peak =
     let none = is_whole (fin false 0 (pos 0)) 0 (start_exactly 0).dense (omega arith) in (none, none)
 
 -- "The float works must equal these numbers wherever they are given": of every plan
-pub works_agree : (h : Head) (ws : List ℕ) (l : Lengths) (p : Plan) → plan_of h ws l ≡ planned p → Agree p.whole_works p.dense_work p.component_work
+pub works_agree : (h : Head) (ws : List ℕ) (l : Lengths) (p : Plan) → plan_of h ws l ≡ completed p → Agree p.whole_works p.dense_work p.component_work
 works_agree h ws l p e = either (unread h) refl
   where
     either : (t : Bool) → unread h ≡ t → Agree p.whole_works p.dense_work p.component_work
@@ -347,7 +348,7 @@ wide_marked s = go (ltb 38 s.widest) refl (eqb s.component 0)
     go false e false f = let y : ◌≡◌ {A = ℕ} 0 1 = cc in absurd (omega arith)
 
 -- "Where the active width, at the start and after each record, never passes 38": of every plan whose records are read
-pub too_wide_exactly : (h : Head) (ws : List ℕ) (l : Lengths) (p : Plan) → unread h ≡ false → plan_of h ws l ≡ planned p
+pub too_wide_exactly : (h : Head) (ws : List ℕ) (l : Lengths) (p : Plan) → unread h ≡ false → plan_of h ws l ≡ completed p
     → TooWideExactly h.initial_k (instructions_of ws) p.whole_works
 unfolding plan_from
 too_wide_exactly h ws l p read e =

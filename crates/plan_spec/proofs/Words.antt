@@ -17,7 +17,7 @@ use Rattle.words.specs.Words.{Words}
 use Rattle.words.proofs.Patches.{begins_length}
 use Rattle.words.proofs.Words.{below_each, words_append, cond_word, power_word, flag_word_lem, FloatFits, float_word}
 use Rattle.kernels.specs.Bits.{odd_ones, dimension, bit_at, without_bit, highest_bit}
-use Rattle.refusals.specs.Answer.{Answer, given, refused}
+use Rattle.refusals.specs.Answer.{Answer, given, refused, completed}
 use Rattle.kernels.specs.Active.{unit_power, phase_factor, odd_phase, action, imaginary, of_dimension, rotation_kernel, rotation, measurement_kernel, measurement}
 use Rattle.kernels.specs.declared.active.Complex64.{Complex64}
 use Rattle.kernels.specs.declared.active.ActivePauliAction.{ActivePauliAction}
@@ -32,7 +32,7 @@ use Rattle.plan_spec.specs.Lists.{remove_at, concat}
 use Rattle.plan_spec.specs.Rows.{step_row}
 use Rattle.plan_spec.specs.Components.{local_mask, allocated_for}
 use Rattle.plan_spec.specs.Walk.{Walk, join_of, local_action, pair_words, row_head, rotation_row, measurement_row, start, no_step, ignored_step, promotion_step, rotation_step, measurement_step}
-use Rattle.plan_spec.specs.Plan.{Lengths, Plan, planned, unread, unread_plan, plan_from, max_dimension, for_dense_peak, plan_of}
+use Rattle.plan_spec.specs.Plan.{Lengths, Plan, unread, unread_plan, plan_from, max_dimension, for_dense_peak, plan_of}
 use Rattle.plan_spec.specs.Connectivity.{ActiveOrder, active_start, active_step}
 use Rattle.plan_spec.specs.Laws.{PlanWords, PlanCounts}
 use Rattle.plan_spec.proofs.Counting.{member_at, place_below}
@@ -340,14 +340,14 @@ record Made (limit initial n : ℕ) (p : Plan) : Type 0 where
   plan_is : p ≡ plan_from initial dense_peak last
 
 -- a plan that read nothing is made from a walk over no records
-unread_made : (h : Head) (ws : List ℕ) (l : Lengths) (p : Plan) → unread h ≡ true → plan_of h ws l ≡ planned p → Made h.ceiling h.initial_k (length ws / 8) p
+unread_made : (h : Head) (ws : List ℕ) (l : Lengths) (p : Plan) → unread h ≡ true → plan_of h ws l ≡ completed p → Made h.ceiling h.initial_k (length ws / 8) p
 unfolding unread_plan
 unread_made h ws l p u e = go (max_dimension h) refl (ceiling_passed h ws l p e).1
   where
-    go : (d : Option ℕ) → dimension h.ceiling h.max_k ≡ d → for_dense_peak h ws l d ≡ planned p → Made h.ceiling h.initial_k (length ws / 8) p
+    go : (d : Option ℕ) → dimension h.ceiling h.max_k ≡ d → for_dense_peak h ws l d ≡ completed p → Made h.ceiling h.initial_k (length ws / 8) p
     go None f e = let z : ◌≡◌ {A = ℕ} 0 1 = cc in absurd (omega arith)
     go (Some dense_peak) f e =
-        let g : planned (unread_plan h.initial_k dense_peak) ≡ planned p = sym (cond_yes (unread h) _ _ u) ∙ e in
+        let g : completed (unread_plan h.initial_k dense_peak) ≡ completed p = sym (cond_yes (unread h) _ _ u) ∙ e in
         let same : p ≡ unread_plan h.initial_k dense_peak = cc in record {
           start_size = 0;
           instructions = [];
@@ -364,7 +364,7 @@ unread_made h ws l p u e = go (max_dimension h) refl (ceiling_passed h ws l p e)
         }
 
 -- every other from that over its records
-read_made : (h : Head) (ws : List ℕ) (l : Lengths) (p : Plan) → unread h ≡ false → plan_of h ws l ≡ planned p → Made h.ceiling h.initial_k (length ws / 8) p
+read_made : (h : Head) (ws : List ℕ) (l : Lengths) (p : Plan) → unread h ≡ false → plan_of h ws l ≡ completed p → Made h.ceiling h.initial_k (length ws / 8) p
 read_made h ws l p u e =
     let k = h.initial_k in
     let a = accepted h ws l p u e in
@@ -386,7 +386,7 @@ read_made h ws l p u e =
     }
 
 -- so is every plan
-plan_made : (h : Head) (ws : List ℕ) (l : Lengths) (p : Plan) → plan_of h ws l ≡ planned p → Made h.ceiling h.initial_k (length ws / 8) p
+plan_made : (h : Head) (ws : List ℕ) (l : Lengths) (p : Plan) → plan_of h ws l ≡ completed p → Made h.ceiling h.initial_k (length ws / 8) p
 plan_made h ws l p e = go (unread h) refl
   where
     go : (t : Bool) → unread h ≡ t → Made h.ceiling h.initial_k (length ws / 8) p
@@ -451,16 +451,16 @@ module _ {limit initial n : ℕ} {p : Plan} (m : Made limit initial n p) where
   made_fits = (made_worded.dense, made_worded.component)
 
 -- every word of an accepted plan is below 2 ^ 64; initial_k is copied, also where nothing is read
-pub plan_words : (h : Head) (ws : List ℕ) (l : Lengths) (p : Plan) → h.initial_k < 2 ^ 64 → plan_of h ws l ≡ planned p → PlanWords p
+pub plan_words : (h : Head) (ws : List ℕ) (l : Lengths) (p : Plan) → h.initial_k < 2 ^ 64 → plan_of h ws l ≡ completed p → PlanWords p
 plan_words h ws l p small e = let m = plan_made h ws l p e in subst PlanWords (sym m.plan_is) (made_words m small)
 
 -- and binary64 holds its works, so that they come back from their bits
-pub works_fit : (h : Head) (ws : List ℕ) (l : Lengths) (p : Plan) → plan_of h ws l ≡ planned p
+pub works_fit : (h : Head) (ws : List ℕ) (l : Lengths) (p : Plan) → plan_of h ws l ≡ completed p
     → T (fits binary64 p.dense_work) × T (fits binary64 p.component_work)
 works_fit h ws l p e =
     let m = plan_made h ws l p e in
     subst (λ (q : Plan). FloatFits q.dense_work × FloatFits q.component_work) (sym m.plan_is) (made_fits m)
 
 -- rows and steps are whole, and there are few of each
-pub plan_counts : (h : Head) (ws : List ℕ) (l : Lengths) (p : Plan) → plan_of h ws l ≡ planned p → PlanCounts (length ws / 8) p
+pub plan_counts : (h : Head) (ws : List ℕ) (l : Lengths) (p : Plan) → plan_of h ws l ≡ completed p → PlanCounts (length ws / 8) p
 plan_counts h ws l p e = let m = plan_made h ws l p e in subst (PlanCounts (length ws / 8)) (sym m.plan_is) (made_counts m)

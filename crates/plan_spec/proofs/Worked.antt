@@ -9,12 +9,13 @@ use native.Mathlib.Omega.{arith}
 use lib.ListN.{length, get_or, take}
 use lib.IntN.{pos}
 use lib.Ieee.{fin}
+use Rattle.refusals.specs.Answer.{completed}
 use Rattle.words.specs.Lists.{numbers_from}
 use Rattle.records.specs.Record.{instructions_of}
 use Rattle.records.specs.declared.Head.{Head}
 use Rattle.records.specs.declared.Instruction.{Instruction}
 use Rattle.plan_spec.specs.WholeWorks.{with_quotient}
-use Rattle.plan_spec.specs.Plan.{Plan, planned, plan_of}
+use Rattle.plan_spec.specs.Plan.{Plan, plan_of}
 use Rattle.plan_spec.specs.Circuits.{enough}
 use Rattle.plan_spec.specs.Connectivity.{ActiveOrder, active_start, active_after, with_links, advanced, sets_of, live_at, moments_of, moments, replay_joined, replay_after, longest_of, measurement_at, Connected, replay_members, rotation_at}
 use Rattle.plan_spec.specs.Groups.{group_members, live_below, GroupsListed}
@@ -76,7 +77,7 @@ plan = record {
   groups = 2 ∷ 0 ∷ 2 ∷ 2 ∷ 3 ∷ 4 ∷ [];
 }
 
-pub premise : plan_of head words (enough 10) ≡ planned plan
+pub premise : plan_of head words (enough 10) ≡ completed plan
 unfolding plan_of
 premise = refl
 

@@ -3,11 +3,12 @@
 -- seven outputs.
 use Rattle.std.specs.Prelude.{ℕ, ◌+◌, ◌*◌, ◌/◌, Bool, true, ◌&&◌, List, [], ◌∷◌, length, if◌then◌else◌, ◌==◌}
 use Rattle.std.specs.Float.Ieee.{to_bits}
+use Rattle.refusals.specs.Answer.{completed, refused_at}
 use Rattle.words.specs.Words.{flag_word, bits_word}
 use Rattle.records.specs.Record.{kind, sine, cosine}
 use Rattle.records.specs.Pass.{sums_to_one}
 use Rattle.plan_spec.specs.WholeWorks.{whole_words}
-use Rattle.plan_spec.specs.Plan.{Lengths, Plan, Result, planned, refused_at, plan_of}
+use Rattle.plan_spec.specs.Plan.{Lengths, Plan, Result, plan_of}
 
 pub record Circuit : Type 0 where
   pub initial : ℕ
@@ -25,7 +26,7 @@ scalar_words p =
 
 unfoldable pub answer_words : Result → List (List ℕ)
 unfolding scalar_words
-answer_words (planned p) =
+answer_words (completed p) =
     scalar_words p ∷ p.steps ∷ p.merges ∷ p.sizes ∷ p.rotations ∷ p.promotions ∷ p.measurements ∷ p.groups ∷ []
 answer_words (refused_at number index) = (number ∷ index ∷ []) ∷ []
 

@@ -3,16 +3,17 @@
 use Rattle.std.specs.Prelude.{ℕ, suc, ◌+◌, ◌*◌, ◌%◌, List, [], ◌∷◌, ◌++◌, Bool, false, if◌then◌else◌, not, ◌&&◌, ◌||◌, nat_le, nat_lt, ◌==◌, length, pos, negsuc, Float, Option, Some, None}
 use Rattle.std.specs.Float.{fin, binary64}
 use Rattle.std.specs.Float.Ieee.{round, mul, sub, le, of_int}
+use Rattle.refusals.specs.Answer.{Outcome, completed, refused_at}
 use Rattle.words.specs.Lists.{padded}
 use Rattle.kernels.specs.Bits.{dimension}
 use Rattle.records.specs.Record.{record_words, record_count, instructions_of}
-use Rattle.records.specs.Pass.{most_coordinates, Checked, Passed, Refused, record_pass}
+use Rattle.records.specs.Pass.{most_coordinates, Checked, Passed, record_pass}
 use Rattle.records.specs.declared.Head.{Head}
 use Rattle.plan_spec.specs.Rows.{measurement_words, rotation_words, step_words}
 use Rattle.plan_spec.specs.Lists.{concat}
 use Rattle.plan_spec.specs.Components.{allocated_for}
 use Rattle.plan_spec.specs.WholeWorks.{WholeWorks, whole_works_of}
-use Rattle.plan_spec.specs.Walk.{Walk, Walked, finished, stopped, start, walk_from}
+use Rattle.plan_spec.specs.Walk.{Walk, Walked, start, walk_from}
 
 -- the lengths of the seven lent buffers, in words
 pub record Lengths : Type 0 where
@@ -44,13 +45,12 @@ pub record Plan : Type 0 where
   pub groups : List ℕ
 
 -- "A refusal returns its number and record index (0 for head and buffers)"
-pub data Result : Type 0 where
-  planned : Plan → Result
-  refused_at : (number index : ℕ) → Result
+abbrev pub Result : Type 0
+Result = Outcome Plan
 
 -- what the lent buffer of one output holds afterwards: "no plan, all seven outputs zero" after a refusal
 abbrev pub held_after : (long : ℕ) → (Plan → List ℕ) → Result → List ℕ
-held_after n output (planned p) = padded n (output p)
+held_after n output (completed p) = padded n (output p)
 held_after n output (refused_at number index) = padded n []
 
 -- ---- section 6
@@ -155,14 +155,14 @@ abbrev pub too_many_coordinates : Head → Bool
 too_many_coordinates head = nat_lt most_coordinates head.initial_k
 
 abbrev pub after_walk : (initial dense_peak : ℕ) → Walked → Result
-after_walk initial dense_peak (finished w) = planned (plan_from initial dense_peak w)
-after_walk initial dense_peak (stopped number index) = refused_at number index
+after_walk initial dense_peak (completed w) = completed (plan_from initial dense_peak w)
+after_walk initial dense_peak (refused_at number index) = refused_at number index
 
 -- "The record pass ends before the walk begins"
 abbrev pub after_pass : (limit initial dense_peak : ℕ) → (words : List ℕ) → Checked → Result
 after_pass limit initial dense_peak words Passed =
     after_walk initial dense_peak (walk_from limit 0 (start initial) (instructions_of words))
-after_pass limit initial dense_peak words (Refused number index) = refused_at number index
+after_pass limit initial dense_peak words (refused_at number index) = refused_at number index
 
 abbrev pub refuse_all : Bool → ℕ → Result → Result
 refuse_all test number rest = if test then refused_at number 0 else rest
@@ -187,7 +187,7 @@ max_dimension head = dimension head.ceiling head.max_k
 abbrev pub for_dense_peak : Head → (words : List ℕ) → (lent : Lengths) → (dense_peak : Option ℕ) → Result
 for_dense_peak head words lent None = refused_at 1 0
 for_dense_peak head words lent (Some dense_peak) =
-    if unread head then planned (unread_plan head.initial_k dense_peak)
+    if unread head then completed (unread_plan head.initial_k dense_peak)
     else plan_read head words lent dense_peak
 
 -- 24: 02, CR 4: "A ceiling outside 1 to 62"

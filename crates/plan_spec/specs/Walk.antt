@@ -6,7 +6,7 @@ use Rattle.std.specs.Float.Ieee.{add, mul, to_bits}
 use Rattle.words.specs.Lists.{numbers_from}
 use Rattle.words.specs.Words.{flag_word, bits_word}
 use Rattle.kernels.specs.Bits.{odd_ones, highest_bit, exp2, dimension}
-use Rattle.refusals.specs.Answer.{Answer, given, refused}
+use Rattle.refusals.specs.Answer.{Answer, Outcome, given, refused, completed, refused_at}
 use Rattle.kernels.specs.Active.{action, rotation, measurement}
 use Rattle.kernels.specs.declared.active.Complex64.{Complex64}
 use Rattle.kernels.specs.declared.active.ActivePauliAction.{ActivePauliAction}
@@ -265,15 +265,14 @@ step limit w DormantBranch = given (no_step w)
 
 -- ---- the whole walk: the last state, or the first refusal with its record's index
 
-pub data Walked : Type 0 where
-  finished : Walk → Walked
-  stopped : (number index : ℕ) → Walked
+abbrev pub Walked : Type 0
+Walked = Outcome Walk
 
 abbrev pub onward : Answer Walk → (index : ℕ) → (Walk → Walked) → Walked
 onward (given w) index f = f w
-onward (refused number) index f = stopped number index
+onward (refused number) index f = refused_at number index
 
 unfoldable pub walk_from : (limit index : ℕ) → Walk → List Instruction → Walked
 unfolding step
-walk_from limit index w [] = finished w
+walk_from limit index w [] = completed w
 walk_from limit index w (i ∷ is) = onward (step limit w i) index (λ v. walk_from limit (suc index) v is)

@@ -14,10 +14,11 @@ use lib.Ieee.{Float, nan, inf, fin, binary64, of_bits, to_bits, is_nan, le}
 use lib.Ieee.Scale.{finite}
 use lib.Ieee.Fits.{and_l, and_r}
 use lib.Ieee.Bits.{to_bits-of_bits, of_bits-fits}
+use Rattle.refusals.specs.Answer.{refused_at}
 use borrow.Author.Tests.{ltb-false, eqb-true}
 use Rattle.records.specs.declared.Instruction.{Instruction}
 use Rattle.records.specs.Record.{word_of, kind, width, phase, angle, sine, cosine, flag, record_at, records_of, instruction_of, instructions_of}
-use Rattle.records.specs.Pass.{Checked, Passed, Refused, one, minus_one, within, within_one, action_number, floats_number, sums_to_one, squares_number, or_else, rotation_number, promotion_number, measurement_number, numbers_by_kind, number_of, coordinates_after, refused_or, pass_from, record_pass}
+use Rattle.records.specs.Pass.{Checked, Passed, one, minus_one, within, within_one, action_number, floats_number, sums_to_one, squares_number, or_else, rotation_number, promotion_number, measurement_number, numbers_by_kind, number_of, coordinates_after, refused_or, pass_from, record_pass}
 use Rattle.records.specs.Sound.{InUnitRange, SoundAction, SoundRotation, SoundMeasurement, Sound, coordinates_through, PassNumber, Refusal}
 use Rattle.records.proofs.Words.{records_length, records-at}
 use Rattle.records.proofs.Pairs.{pair_sound}
@@ -219,18 +220,18 @@ range n t h = go (eqb n 0) refl (leb 5 n && leb n 10) refl t
     go false e false f t = inr (eqb→eq n 25 t)
 
 -- the first record is refused, or a later one is
-which : (n i : ℕ) (rest : Checked) (m j : ℕ) → refused_or n i rest ≡ Refused m j → ((m ≡ n) × (j ≡ i) × (n ≡ 0 → ⊥)) ⊎ (rest ≡ Refused m j)
+which : (n i : ℕ) (rest : Checked) (m j : ℕ) → refused_or n i rest ≡ refused_at m j → ((m ≡ n) × (j ≡ i) × (n ≡ 0 → ⊥)) ⊎ (rest ≡ refused_at m j)
 unfolding refused_or
 which zero i rest m j e = inr e
 which (suc n) i rest m j e = inl ((cc), (cc), suc-ne-zero n)
 
-refused_from : (rs : List (List ℕ)) (i c m j : ℕ) → pass_from i c rs ≡ Refused m j → PassNumber m × (j < i + length rs)
+refused_from : (rs : List (List ℕ)) (i c m j : ℕ) → pass_from i c rs ≡ refused_at m j → PassNumber m × (j < i + length rs)
 unfolding pass_from
 refused_from [] i c m j e = let z : ◌≡◌ {A = ℕ} 0 1 = cc in absurd (suc-ne-zero 0 (sym z))
 refused_from (r ∷ rs) i c m j e = go (which (number_of c r) i (pass_from (suc i) (coordinates_after c r) rs) m j e) (refused_from rs (suc i) (coordinates_after c r) m j)
   where
-    go : ((m ≡ number_of c r) × (j ≡ i) × (number_of c r ≡ 0 → ⊥)) ⊎ (pass_from (suc i) (coordinates_after c r) rs ≡ Refused m j)
-        → (pass_from (suc i) (coordinates_after c r) rs ≡ Refused m j → PassNumber m × (j < suc i + length rs))
+    go : ((m ≡ number_of c r) × (j ≡ i) × (number_of c r ≡ 0 → ⊥)) ⊎ (pass_from (suc i) (coordinates_after c r) rs ≡ refused_at m j)
+        → (pass_from (suc i) (coordinates_after c r) rs ≡ refused_at m j → PassNumber m × (j < suc i + length rs))
         → PassNumber m × (j < i + suc (length rs))
     go (inl f) later = (subst PassNumber (sym f.0) (range (number_of c r) (number_allowed c r) f.2), omega (arith, f.1))
     go (inr g) later =
@@ -238,7 +239,7 @@ refused_from (r ∷ rs) i c m j e = go (which (number_of c r) i (pass_from (suc 
         (b.0, omega (arith, b.1))
 
 -- a refusal has a number 5 to 10 or 25 and a record of the words
-pub refused_in : (k : ℕ) (ws : List ℕ) (n i : ℕ) → record_pass k ws ≡ Refused n i → Refusal ws n i
+pub refused_in : (k : ℕ) (ws : List ℕ) (n i : ℕ) → record_pass k ws ≡ refused_at n i → Refusal ws n i
 refused_in k ws n i e =
     let b = refused_from (records_of ws) 0 k n i (sym (pass_start k ws) ∙ e) in
     record { number_of_pass = b.0; index_below = omega (arith, b.1, records_length ws) }

@@ -12,13 +12,14 @@ use mathlib.Core.Bool.{Bool, true, false, cond}
 use lib.Dec.{ltb, eqb}
 use Rattle.std.specs.Prelude.{Result, Ok}
 use Rattle.std.specs.Result.{result_eq}
+use Rattle.refusals.specs.Answer.{refused_at}
 use Rattle.refusals.specs.declared.Reason.{Reason}
 use Rattle.records.specs.contracts.KindPartialEq.TheImpl.{eq-value}
 use Rattle.records.specs.declared.Kind.{Kind}
 use Rattle.records.specs.declared.Kind.TheVariants.{Promotion}
 use Rattle.records.specs.Kinds.{kind_in}
 use Rattle.records.specs.Record.{kind, record_at, records_of}
-use Rattle.records.specs.Pass.{Checked, Passed, Refused, number_of, promotion_number, coordinates_after, refused_or, pass_from, record_pass}
+use Rattle.records.specs.Pass.{Checked, Passed, number_of, promotion_number, coordinates_after, refused_or, pass_from, record_pass}
 use Rattle.records.proofs.Words.{records_length, records_drop}
 
 pub pass_start : (k : ℕ) (ws : List ℕ) → record_pass k ws ≡ pass_from 0 k (records_of ws)
@@ -34,7 +35,7 @@ pub pass_end : (i c : ℕ) (ws : List ℕ) → length ws / 8 ≤ i → pass_from
 unfolding pass_from
 pass_end i c ws h = ap (pass_from i c) (drop_of_length-le (records_of ws) {i = i} (rw records_length h))
 
-pub refused : (n i : ℕ) (rest : Checked) → (n ≡ 0 → ⊥) → refused_or n i rest ≡ Refused n i
+pub refused : (n i : ℕ) (rest : Checked) → (n ≡ 0 → ⊥) → refused_or n i rest ≡ refused_at n i
 unfolding refused_or
 refused zero i rest h = absurd (h refl)
 refused (suc n) i rest h = refl
@@ -80,7 +81,7 @@ room c r e k = ltb-true c 512 (cond-true (ltb c 512) 9 (rw k at e))
 -- Record i of the words, with c coordinates before it and the number n, and all records before it passed
 module _ (k : ℕ) (ws : List ℕ) (i c n : ℕ) (h : i < length ws / 8) (so_far : record_pass k ws ≡ pass_from i c (drop i (records_of ws)))
     (number : n ≡ number_of c (record_at ws i)) where
-  pub decides : (n ≡ 0 → ⊥) → Refused n i ≡ record_pass k ws
+  pub decides : (n ≡ 0 → ⊥) → refused_at n i ≡ record_pass k ws
   decides refuses = sym (so_far ∙ pass_step i c ws h ∙ rw (← number) (refused n i _ refuses))
 
   pub goes_on : n ≡ 0 → {c' : ℕ} → c' ≡ coordinates_after c (record_at ws i) → record_pass k ws ≡ pass_from (i + 1) c' (drop (i + 1) (records_of ws))

@@ -3,6 +3,7 @@ use Rattle.std.specs.Prelude.{ℕ, zero, suc, ◌+◌, ◌-◌, ◌^◌, List, [
 use Rattle.std.specs.Float.{fin, binary64}
 use Rattle.std.specs.Float.Ieee.{add, mul, le, of_bits}
 use Rattle.std.specs.Float.Ieee.Scale.{finite}
+use Rattle.refusals.specs.Answer.{Outcome, completed, refused_at}
 use Rattle.refusals.specs.Numbers as Reasons
 use Rattle.refusals.specs.declared.Refusal.{Refusal}
 use Rattle.records.specs.Record.{kind, width, phase, angle, sine, cosine, flag, records_of, chunks}
@@ -102,19 +103,21 @@ abbrev pub coordinates_after : (coordinates : ℕ) → List ℕ → ℕ
 coordinates_after coordinates r = if is_promotion r then suc coordinates else coordinates
 
 -- the record pass's answer: "A refusal returns its number and record index"
-pub data Checked : Type 0 where
-  Passed : Checked
-  Refused : (number index : ℕ) → Checked
+abbrev pub Checked : Type 0
+Checked = Outcome Unit
+
+abbrev pub Passed : Checked
+Passed = completed tt
 
 -- of the code's answer
 abbrev pub checked_of : Result Unit Refusal → Checked
 checked_of (Ok done) = Passed
-checked_of (Err refusal) = Refused (Reasons.number_of refusal.reason) refusal.index
+checked_of (Err refusal) = refused_at (Reasons.number_of refusal.reason) refusal.index
 
 -- "A refusal returns its number and record index": of a record with the number n, before the rest
 unfoldable pub refused_or : (number index : ℕ) → Checked → Checked
 refused_or zero index rest = rest
-refused_or (suc n) index rest = Refused (suc n) index
+refused_or (suc n) index rest = refused_at (suc n) index
 
 -- "the first record decides"
 unfoldable pub pass_from : (index coordinates : ℕ) → List (List ℕ) → Checked

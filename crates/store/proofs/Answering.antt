@@ -7,11 +7,12 @@ use mathlib.Core.List.{List, []}
 use Prim.Native.Nat.{ℕ, ◌+◌, ◌*◌, ◌/◌, ◌≤◌, ◌<◌}
 use native.Mathlib.Omega.{arith}
 use lib.ListN.{length}
+use Rattle.refusals.specs.Answer.{completed, refused_at}
 use borrow.Author.Tests.{lt-ltb, le-ltb}
 use Rattle.words.specs.Lists.{padded}
 use Rattle.words.proofs.Padded.{front_of_padded}
 use Rattle.records.specs.declared.Head.{Head}
-use Rattle.plan_spec.specs.Plan.{Lengths, Plan, Result, planned, refused_at, refuse_all, plan_of}
+use Rattle.plan_spec.specs.Plan.{Lengths, Plan, Result, refuse_all, plan_of}
 use Rattle.plan_spec.proofs.Room.{plan_fits_in}
 use Rattle.plan_spec.proofs.Words.{plan_counts}
 use Rattle.plan_buffers.specs.declared.WordCounts.{WordCounts}
@@ -45,13 +46,13 @@ six b = record {
 }
 
 module _ (h : Head) (ws : List ℕ) (before between : Buffers) (r : ActiveComponentPlan) (a : Answers h ws before between (Ok r)) where
-  abbrev it : (p : Plan) × (plan_of h ws (lengths_of before) ≡ planned p) × (scalars_in r ≡ scalars_of p) × (r.used ≡ used_in p)
+  abbrev it : (p : Plan) × (plan_of h ws (lengths_of before) ≡ completed p) × (scalars_in r ≡ scalars_of p) × (r.used ≡ used_in p)
   it = found (plan_of h ws (lengths_of before)) r a.answer
 
   abbrev p : Plan
   p = it.0
 
-  held : Held (planned p) before between
+  held : Held (completed p) before between
   held = subst (λ (x : Result). Held x before between) it.1 a.held
 
   -- the counts are no more than the buffers' lengths
@@ -105,7 +106,7 @@ module _ (h : Head) (ws : List ℕ) (before between : Buffers) (r : ActiveCompon
   stores_short after file filed short same zeros cleared =
       let long = file_length in
       let refusal : store_of h ws (lengths_of before) (length file) ≡ refused_at 23 0 =
-      ap (fitting (length file)) it.1 ∙ ap (λ (t : Bool). refuse_all t 23 (planned p)) (lt-ltb (length file) (length (file_of p)) (omega arith)) in record {
+      ap (fitting (length file)) it.1 ∙ ap (λ (t : Bool). refuse_all t 23 (completed p)) (lt-ltb (length file) (length (file_of p)) (omega arith)) in record {
         answer = sym (ap outcome_in refusal);
         held = subst (λ (x : Result). Held x before after) (sym refusal) (zeros_held before between after same zeros);
         bytes = cleared ∙ sym (ap (λ (x : Result). padded (length file) (file_in x)) refusal);
@@ -116,8 +117,8 @@ module _ (h : Head) (ws : List ℕ) (before between : Buffers) (r : ActiveCompon
       → Stores h ws before between file filed (Ok (8 * words_for r.used))
   stores_file file filed room written =
       let long = file_length in
-      let plan : store_of h ws (lengths_of before) (length file) ≡ planned p =
-      ap (fitting (length file)) it.1 ∙ ap (λ (t : Bool). refuse_all t 23 (planned p)) (le-ltb (length file) (length (file_of p)) (omega arith)) in record {
+      let plan : store_of h ws (lengths_of before) (length file) ≡ completed p =
+      ap (fitting (length file)) it.1 ∙ ap (λ (t : Bool). refuse_all t 23 (completed p)) (le-ltb (length file) (length (file_of p)) (omega arith)) in record {
         answer = ap Storing.written (sym long) ∙ sym (ap outcome_in plan);
         held = subst (λ (x : Result). Held x before between) (sym plan) held;
         bytes = written ∙ ap (λ (k : Kept). padded (length file) (bytes_of k)) front_is ∙ sym (ap (λ (x : Result). padded (length file) (file_in x)) plan);

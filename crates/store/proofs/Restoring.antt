@@ -7,10 +7,11 @@ use Prim.Native.Nat.{ℕ, ◌^◌, ◌<◌}
 use native.Mathlib.Omega.{arith}
 use lib.Dec.{ltb}
 use lib.ListN.{length, take}
+use Rattle.refusals.specs.Answer.{completed, refused_at}
 use Rattle.words.specs.Lists.{padded}
 use Rattle.words.proofs.Padded.{front_of_padded}
 use Rattle.records.specs.declared.Head.{Head}
-use Rattle.plan_spec.specs.Plan.{Plan, Result, planned, refused_at, refuse_all, plan_of}
+use Rattle.plan_spec.specs.Plan.{Plan, Result, refuse_all, plan_of}
 use Rattle.plan_buffers.specs.SevenBuffers.{Buffers, lengths_of}
 use Rattle.stored_plan.specs.Stored.{kept_of, file_of}
 use Rattle.stored_plan.specs.Reading.{Read, restored, trailer_word, read_file}
@@ -25,17 +26,17 @@ use Rattle.store.specs.Restoring.{GivesBack, Written}
 
 -- an answer with a length is that of an accepted plan
 stored_plan : (size : ℕ) (result : Result) (n : ℕ) → Storing.written n ≡ Storing.outcome_in (fitting size result)
-    → (p : Plan) × (result ≡ planned p) × (fitting size result ≡ planned p) × (n ≡ length (file_of p))
+    → (p : Plan) × (result ≡ completed p) × (fitting size result ≡ completed p) × (n ≡ length (file_of p))
 stored_plan size (refused_at number index) n e = let z : ◌≡◌ {A = ℕ} 0 1 = cc in absurd (omega arith)
-stored_plan size (planned p) n e = go (ltb size (length (file_of p))) refl
+stored_plan size (completed p) n e = go (ltb size (length (file_of p))) refl
   where
     go : (t : Bool) → ltb size (length (file_of p)) ≡ t
-        → (q : Plan) × (planned p ≡ planned q) × (fitting size (planned p) ≡ planned q) × (n ≡ length (file_of q))
+        → (q : Plan) × (completed p ≡ completed q) × (fitting size (completed p) ≡ completed q) × (n ≡ length (file_of q))
     go true f =
-        let r : Storing.written n ≡ Storing.turned_away 23 0 = e ∙ ap (λ (t : Bool). Storing.outcome_in (refuse_all t 23 (planned p))) f in
+        let r : Storing.written n ≡ Storing.turned_away 23 0 = e ∙ ap (λ (t : Bool). Storing.outcome_in (refuse_all t 23 (completed p))) f in
         let z : ◌≡◌ {A = ℕ} 0 1 = cc in absurd (omega arith)
     go false f =
-        let fits : fitting size (planned p) ≡ planned p = ap (λ (t : Bool). refuse_all t 23 (planned p)) f in
+        let fits : fitting size (completed p) ≡ completed p = ap (λ (t : Bool). refuse_all t 23 (completed p)) f in
         let r : Storing.written n ≡ Storing.written (length (file_of p)) = e ∙ ap Storing.outcome_in fits in
         let same : n ≡ length (file_of p) = cc in (p, refl, fits, same)
 
@@ -55,7 +56,7 @@ gives_back p file before after r e a =
 
 -- for every accepted program, every buffer and every file that is long enough
 pub call_written : (h : Head) (ws : List ℕ) (before after : Buffers) (file filed : List ℕ) (n : ℕ) → h.initial_k < 2 ^ 64
-    → Stores h ws before after file filed (Ok n) → (p : Plan) × (plan_of h ws (lengths_of before) ≡ planned p) × Written p filed n
+    → Stores h ws before after file filed (Ok n) → (p : Plan) × (plan_of h ws (lengths_of before) ≡ completed p) × Written p filed n
 call_written h ws before after file filed n small a =
     let l = lengths_of before in
     let it = stored_plan (length file) (plan_of h ws l) n a.answer in

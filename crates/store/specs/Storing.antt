@@ -1,11 +1,12 @@
 -- What the contract of `store` says: its answer, the seven buffers and every byte of the file.
 -- Written from 02, CR 2.
 use Rattle.std.specs.Prelude.{ℕ, ◌≡◌, ◌≤◌, List, [], length, take, Result as Answered, Ok, Err, nat_lt}
+use Rattle.refusals.specs.Answer.{completed, refused_at}
 use Rattle.words.specs.Lists.{padded}
 use Rattle.refusals.specs.Numbers.{number_of}
 use Rattle.refusals.specs.declared.Refusal.{Refusal}
 use Rattle.records.specs.declared.Head.{Head}
-use Rattle.plan_spec.specs.Plan.{Lengths, Result, planned, refused_at, refuse_all, plan_of}
+use Rattle.plan_spec.specs.Plan.{Lengths, Result, refuse_all, plan_of}
 use Rattle.plan_buffers.specs.SevenBuffers.{Buffers, lengths_of, Held}
 use Rattle.plan_buffers.specs.declared.WordCounts.{WordCounts}
 use Rattle.plan_buffers.specs.SixOutputs.{Outputs}
@@ -15,7 +16,7 @@ use Rattle.plan_file.specs.Writing.{kept_in}
 
 -- "Planning's refusals come first, then 23 for a short file buffer", of n bytes
 abbrev pub fitting : ℕ → Result → Result
-fitting n (planned p) = refuse_all (nat_lt n (length (file_of p))) 23 (planned p)
+fitting n (completed p) = refuse_all (nat_lt n (length (file_of p))) 23 (completed p)
 fitting n (refused_at number index) = refused_at number index
 
 -- what storing gives for a head, the record words, the lengths of the lent buffers and that of
@@ -35,12 +36,12 @@ outcome_of (Err refusal) = turned_away (number_of refusal.reason) refusal.index
 
 -- of the definition's result
 abbrev pub outcome_in : Result → Outcome
-outcome_in (planned p) = written (length (file_of p))
+outcome_in (completed p) = written (length (file_of p))
 outcome_in (refused_at number index) = turned_away number index
 
 -- the file of a plan; a refusal has none
 abbrev pub file_in : Result → List ℕ
-file_in (planned p) = file_of p
+file_in (completed p) = file_of p
 file_in (refused_at number index) = []
 
 -- the answer, every buffer and every byte of the file are the definition's: "Unused bytes and

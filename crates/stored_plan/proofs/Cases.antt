@@ -3,8 +3,9 @@ use mathlib.Core.Path.{◌≡◌, refl}
 use mathlib.Core.List.{List, [], ◌∷◌, ◌++◌, map}
 use Prim.Native.Nat.{ℕ, ◌+◌, ◌-◌, ◌*◌, ◌^◌}
 use lib.ListN.{take, set}
+use Rattle.refusals.specs.Answer.{completed, refused_at}
 use Rattle.words.specs.File.{word_bytes}
-use Rattle.plan_spec.specs.Plan.{Result, planned, refused_at, plan_of}
+use Rattle.plan_spec.specs.Plan.{Result, plan_of}
 use Rattle.plan_buffers.specs.declared.WordCounts.{WordCounts}
 use Rattle.stored_plan.specs.Stored.{file_of}
 use Rattle.stored_plan.specs.Reading.{Read, restored, refused, read_file}
@@ -14,7 +15,7 @@ use Rattle.stored_plan.specs.Loading.{number_of}
 
 -- the file of a result
 abbrev pub file_for : Result → List ℕ
-file_for (planned p) = file_of p
+file_for (completed p) = file_of p
 file_for (refused_at number index) = []
 
 -- a program with buffers for n records

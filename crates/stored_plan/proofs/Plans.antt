@@ -9,13 +9,14 @@ use lib.Dec.{T, eqb, ltb}
 use lib.ListN.{length, get_or, length-append}
 use lib.Ieee.{Float, binary64, fits, of_bits}
 use lib.Ieee.Bits.{of_bits-to_bits}
+use Rattle.refusals.specs.Answer.{completed}
 use borrow.Author.Tests.{eq-eqb, le-ltb}
 use Rattle.words.specs.Words.{flag_word, bits_word, Words}
 use Rattle.words.proofs.Words.{words_append, flag_word_lem}
 use Rattle.words.proofs.Bytes.{length_bytes}
 use Rattle.records.specs.declared.Head.{Head}
 use Rattle.plan_spec.specs.Lists.{concat}
-use Rattle.plan_spec.specs.Plan.{Lengths, Plan, planned, plan_of}
+use Rattle.plan_spec.specs.Plan.{Lengths, Plan, plan_of}
 use Rattle.plan_spec.proofs.Words.{plan_words, works_fit, plan_counts}
 use Rattle.plan_buffers.specs.declared.WordCounts.{WordCounts}
 use Rattle.plan_buffers.specs.SixOutputs.{outputs_short}
@@ -51,7 +52,7 @@ file_length p =
     let w = length-append (concat (sections_of k)) (trailer_of (sections_of k)) in
     omega arith
 
-module _ (h : Head) (ws : List ℕ) (l : Lengths) (p : Plan) (small : h.initial_k < 2 ^ 64) (e : plan_of h ws l ≡ planned p) where
+module _ (h : Head) (ws : List ℕ) (l : Lengths) (p : Plan) (small : h.initial_k < 2 ^ 64) (e : plan_of h ws l ≡ completed p) where
   -- so many bytes are enough for n records
   pub file_most : length (file_of p) ≤ 8 * (24 * (length ws / 8) + 1047)
   file_most = let c = (plan_counts h ws l p e).most in let f = file_length p in omega arith
@@ -141,8 +142,8 @@ kept_same p q f g e =
     }
 
 -- plans with the same file have the same fields and rows
-pub same_file : (h : Head) (ws : List ℕ) (l : Lengths) (p : Plan) → h.initial_k < 2 ^ 64 → plan_of h ws l ≡ planned p
-    → (h' : Head) (ws' : List ℕ) (l' : Lengths) (q : Plan) → h'.initial_k < 2 ^ 64 → plan_of h' ws' l' ≡ planned q
+pub same_file : (h : Head) (ws : List ℕ) (l : Lengths) (p : Plan) → h.initial_k < 2 ^ 64 → plan_of h ws l ≡ completed p
+    → (h' : Head) (ws' : List ℕ) (l' : Lengths) (q : Plan) → h'.initial_k < 2 ^ 64 → plan_of h' ws' l' ≡ completed q
     → file_of p ≡ file_of q → SamePlan p q
 same_file h ws l p small e h' ws' l' q small' e' same =
     let lent : WordCounts = record {

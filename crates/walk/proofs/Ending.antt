@@ -6,13 +6,14 @@ use mathlib.Core.List.{List, ◌++◌}
 use Prim.Native.Nat.{ℕ, ◌*◌, ◌/◌, ◌≤◌}
 use native.Mathlib.Omega.{arith}
 use lib.ListN.{length, take, drop, replicate, drop_of_length-le}
+use Rattle.refusals.specs.Answer.{completed}
 use Rattle.words.specs.Lists.{numbers_from}
 use Rattle.words.proofs.Numbers.{length-numbers}
 use Rattle.records.specs.Record.{instructions_of}
 use Rattle.records.specs.declared.Instruction.{Instruction}
 use Rattle.records.proofs.Laws.{instructions_length}
 use Rattle.plan_spec.specs.Components.{live_dimension}
-use Rattle.plan_spec.specs.Walk.{Walk, start, walk_from, Walked, finished}
+use Rattle.plan_spec.specs.Walk.{Walk, start, walk_from, Walked}
 use Rattle.plan_spec.specs.Plan.{groups_of, buffers_refused}
 use Rattle.plan_spec.specs.Connectivity.{active_start, active_after}
 use Rattle.plan_spec.proofs.Steps.{done}
@@ -89,7 +90,7 @@ module _ (limit k : ℕ) (ws : List ℕ) (b : Buffers) (ok : Walkable k ws b) (i
       groups_written s w.components (active_of w r) (tracked_here w r tr) at.rep o ordered (made limit k ws b ok i upto w s t c at) (active_most limit k ws b ok i upto w s t c at)
       c.groups (omega arith) few
 
-  finishes : walk_from limit 0 (start k) (instructions_of ws) ≡ finished w
+  finishes : walk_from limit 0 (start k) (instructions_of ws) ≡ completed w
   unfolding walk_from
   finishes = at.ahead ∙ ap (walk_from limit i w) (drop_of_length-le (instructions_of ws) {i = i} (let l = instructions_length ws in omega arith))
 

@@ -12,7 +12,7 @@ use Rattle.words.specs.Lists.{patch, Begins}
 use Rattle.words.proofs.Patches.{begins_length}
 use Rattle.words.proofs.Numbers.{same_or_not}
 use Rattle.words.proofs.Patches.{patch_none}
-use Rattle.refusals.specs.Answer.{Answer, given, refused}
+use Rattle.refusals.specs.Answer.{Answer, given, refused, refused_at}
 use Rattle.kernels.specs.declared.active.PrecomputedActivePauliRotationKernel.{PrecomputedActivePauliRotationKernel}
 use Rattle.kernels.specs.declared.active.PrecomputedActivePauliMeasurementKernel.{PrecomputedActivePauliMeasurementKernel}
 use Rattle.records.specs.Record.{record_at, instruction_of, instructions_of}
@@ -20,7 +20,7 @@ use Rattle.records.proofs.Laws.{instruction_at}
 use Rattle.records.specs.declared.Instruction.{Instruction}
 use Rattle.records.specs.declared.Instruction.TheVariants.{Rotation, Promotion, RecordMeasurement, RecordDetector, Measurement, Expectation, DormantBranch}
 use Rattle.plan_spec.specs.Lists.{concat}
-use Rattle.plan_spec.specs.Walk.{Walk, join_of, no_step, ignored_step, promotion_step, rotation_step, measurement_step, step, start, walk_from, stopped}
+use Rattle.plan_spec.specs.Walk.{Walk, join_of, no_step, ignored_step, promotion_step, rotation_step, measurement_step, step, start, walk_from}
 use Rattle.plan_spec.proofs.Room.{width_of}
 use Rattle.state.specs.declared.State.{State}
 use Rattle.work_sums.specs.declared.Tally.{Tally}
@@ -100,7 +100,7 @@ module _ {limit k : ℕ} {ws : List ℕ} {i : ℕ} {o : List ℕ} {s : State} {t
       subst (WhereJoined s.width (λ a z. GatherFits s.component s.size s.width t.merges (length c.merges) a z)) now
       (R.open_fits limit k ws lo.b lo.ok i next lo.w s t c lo.at lo.long)
 
-  pub opening_stops : (number : ℕ) → number ≡ number_before s.width x → (number ≡ 0 → ⊥) → walk_from limit 0 (start k) (instructions_of ws) ≡ stopped number i
+  pub opening_stops : (number : ℕ) → number ≡ number_before s.width x → (number ≡ 0 → ⊥) → walk_from limit 0 (start k) (instructions_of ws) ≡ refused_at number i
   opening_stops number e f = R.open_stops limit k ws lo.b lo.ok i next lo.w s t c lo.at lo.long number (e ∙ ap (number_before s.width) (sym now)) f
 
   -- the width of the record
@@ -238,7 +238,7 @@ module _ {limit k : ℕ} {ws : List ℕ} {i : ℕ} {o : List ℕ} {s : State} {t
         answer_same : rotated ≡ rotation_answer u.place (pauli_of a z phase) (angle_of angle sine cosine) here (joining_of s.size (join_of a z lo.w).sources).size
         answer_same = ap (λ (q : Joining). rotation_answer u.place (pauli_of a z phase) (angle_of angle sine cosine) here q.size) (join_is a z rotation_active rotation_small rotation_joined jn made_so)
 
-        pub rotate_stops : (n : ℕ) → rotated ≡ refused n → walk_from limit 0 (start k) (instructions_of ws) ≡ stopped n i
+        pub rotate_stops : (n : ℕ) → rotated ≡ refused n → walk_from limit 0 (start k) (instructions_of ws) ≡ refused_at n i
         rotate_stops n e =
             R.rotation_stops limit k ws lo.b lo.ok i next lo.w s t c lo.at lo.long a z rotation_active rotation_small u stands width phase angle sine cosine rotation_now rotation_wide n
             (sym answer_same ∙ e)
@@ -302,7 +302,7 @@ module _ {limit k : ℕ} {ws : List ℕ} {i : ℕ} {o : List ℕ} {s : State} {t
         found_same : found ≡ measurement_answer u.component u.place (pauli_of a z phase) pivot here (joining_of s.size (join_of a z lo.w).sources)
         found_same = ap (measurement_answer u.component u.place (pauli_of a z phase) pivot here) (join_is a z passed.1 measurement_small measurement_joined jn opened_so)
 
-        pub measure_stops : (n : ℕ) → found ≡ refused n → walk_from limit 0 (start k) (instructions_of ws) ≡ stopped n i
+        pub measure_stops : (n : ℕ) → found ≡ refused n → walk_from limit 0 (start k) (instructions_of ws) ≡ refused_at n i
         measure_stops n e =
             R.measurement_stops limit k ws lo.b lo.ok i next lo.w s t c lo.at lo.long a z passed.1 measurement_small u stands_so width phase pivot measurement_now passed.0 n
             (sym found_same ∙ e)

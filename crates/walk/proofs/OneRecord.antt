@@ -17,7 +17,7 @@ use Rattle.words.specs.Lists.{patch, Begins}
 use Rattle.words.proofs.Numbers.{same_or_not}
 use Rattle.words.proofs.Patches.{begins_patch, begins_more, begins_set, begins_at}
 use Rattle.kernels.specs.Bits.{exp2}
-use Rattle.refusals.specs.Answer.{Answer, given, refused}
+use Rattle.refusals.specs.Answer.{Answer, given, refused, refused_at}
 use Rattle.kernels.specs.Active.{action, rotation, measurement}
 use Rattle.kernels.specs.declared.active.Angle.{Angle}
 use Rattle.kernels.specs.declared.active.PrecomputedActivePauliRotationKernel.{PrecomputedActivePauliRotationKernel}
@@ -27,7 +27,7 @@ use Rattle.records.specs.declared.Instruction.{Instruction}
 use Rattle.records.specs.declared.Instruction.TheVariants.{Rotation, Promotion, RecordMeasurement, RecordDetector, Measurement, Expectation, DormantBranch}
 use Rattle.plan_spec.specs.Lists.{concat, remove_at}
 use Rattle.plan_spec.specs.Components.{members_of, size_of, amplitudes, joining_cost, live_dimension, local_mask, float_two}
-use Rattle.plan_spec.specs.Walk.{Walk, Join, join_of, local_action, when_given, no_step, ignored_step, promotion_step, rotation_step, measurement_step, step, start, walk_from, stopped, rotation_row, measurement_row}
+use Rattle.plan_spec.specs.Walk.{Walk, Join, join_of, local_action, when_given, no_step, ignored_step, promotion_step, rotation_step, measurement_step, step, start, walk_from, rotation_row, measurement_row}
 use Rattle.plan_spec.specs.Connectivity.{NoRepeats, ActiveOrder, active_start, active_after}
 use Rattle.plan_spec.proofs.Counting.{length_remove_at}
 use Rattle.plan_spec.proofs.Steps.{cond_yes, cond_no}
@@ -288,7 +288,7 @@ module _ (limit k : ℕ) (ws : List ℕ) (b : Buffers) (ok : Walkable k ws b) (i
         rotation_same = ap (λ a. rotation limit a phase angle sine cosine) (local_same phase)
 
         pub rotation_stops : (n : ℕ) → rotation_answer u.place (pauli_of x z phase) (angle_of angle sine cosine) here join.size ≡ refused n
-            → walk_from limit 0 (start k) (instructions_of ws) ≡ stopped n i
+            → walk_from limit 0 (start k) (instructions_of ws) ≡ refused_at n i
         rotation_stops n e =
             stops limit k ws b ok i upto w s t c at next (Rotation width x z phase angle sine cosine) n is_now
             (rotates limit w width x z phase angle sine cosine wide active ∙ ap (λ a. when_given a (λ q. given (rotation_step w j q))) (sym rotation_same ∙ e))
@@ -369,7 +369,7 @@ module _ (limit k : ℕ) (ws : List ℕ) (b : Buffers) (ok : Walkable k ws b) (i
             (λ h e. J.pivot_at w roll tr s at.rep few x z active narrow u to pivot h e)
             ∙ ap (λ a. when_given a (λ q. given (measurement_step w j pivot q))) (sym tested_same)
 
-        pub measurement_stops : (n : ℕ) → answer ≡ refused n → walk_from limit 0 (start k) (instructions_of ws) ≡ stopped n i
+        pub measurement_stops : (n : ℕ) → answer ≡ refused n → walk_from limit 0 (start k) (instructions_of ws) ≡ refused_at n i
         measurement_stops n e =
             stops limit k ws b ok i upto w s t c at next (Measurement width x z phase pivot) n is_now
             (steps_so ∙ ap (λ a. when_given a (λ q. given (measurement_step w j pivot q))) e)
@@ -659,7 +659,7 @@ module _ (limit k : ℕ) (ws : List ℕ) (b : Buffers) (ok : Walkable k ws b) (i
       go DormantBranch h = tt
 
   -- refusals 11 to 13
-  pub open_stops : (n : ℕ) → n ≡ number_before s.width now → (n ≡ 0 → ⊥) → walk_from limit 0 (start k) (instructions_of ws) ≡ stopped n i
+  pub open_stops : (n : ℕ) → n ≡ number_before s.width now → (n ≡ 0 → ⊥) → walk_from limit 0 (start k) (instructions_of ws) ≡ refused_at n i
   open_stops n e some =
       let same : number_before (length w.order) now ≡ n = ap (λ (d : ℕ). number_before d now) (sym at.rep.width) ∙ sym e in
       stops limit k ws b ok i upto w s t c at next now n refl (refused_before limit w now (λ f. some (sym same ∙ f)) ∙ ap refused same)

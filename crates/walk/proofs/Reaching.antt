@@ -9,14 +9,14 @@ use lib.Dec.{eqb, ltb}
 use borrow.Author.Tests.{ltb-false}
 use lib.ListN.{length, get_or, take, drop, length-take}
 use lib.Seq.{get_or-take, drop-cons, take-suc}
-use Rattle.refusals.specs.Answer.{Answer, given, refused}
+use Rattle.refusals.specs.Answer.{Answer, given, refused, refused_at}
 use Rattle.records.specs.Record.{instructions_of}
 use Rattle.records.specs.declared.Instruction.{Instruction}
 use Rattle.records.specs.declared.Instruction.TheVariants.{Promotion, DormantBranch}
 use Rattle.records.proofs.Laws.{instructions_length}
 use Rattle.plan_spec.specs.Lists.{total}
 use Rattle.plan_spec.specs.Components.{live_dimension}
-use Rattle.plan_spec.specs.Walk.{Walk, step, start, walk_from, onward, stopped, no_step, ignored_step, promotion_step, rotation_step, measurement_step}
+use Rattle.plan_spec.specs.Walk.{Walk, step, start, walk_from, onward, no_step, ignored_step, promotion_step, rotation_step, measurement_step}
 use Rattle.plan_spec.specs.Plan.{groups_of}
 use Rattle.plan_spec.specs.Connectivity.{active_start, active_after, promotions_in}
 use Rattle.plan_spec.proofs.Steps.{Stepped, ignored, rotated, promoted, measured, recorded, detected, expected, branched, stepped, Run, done, more}
@@ -152,7 +152,7 @@ module _ (limit k : ℕ) (ws : List ℕ) (b : Buffers) (ok : Walkable k ws b) (i
     goes_on x e = at.ahead ∙ ap (walk_from limit i w) (next_is x e)
 
     -- a refusal of the next step is where the walk stops
-    pub stops : (x : Instruction) (n : ℕ) → get_or is i DormantBranch ≡ x → step limit w x ≡ refused n → walk_from limit 0 (start k) is ≡ stopped n i
+    pub stops : (x : Instruction) (n : ℕ) → get_or is i DormantBranch ≡ x → step limit w x ≡ refused n → walk_from limit 0 (start k) is ≡ refused_at n i
     stops x n e f = goes_on x e ∙ ap (λ (a : Answer Walk). onward a i (λ v. walk_from limit (suc i) v (drop (suc i) is))) f
 
     -- an accepted one is one record more

@@ -9,11 +9,11 @@ use Rattle.refusals.specs.declared.Reason.{Reason}
 use Rattle.records.specs.Record.{instructions_of}
 use Rattle.records.specs.declared.Instruction.{Instruction}
 use Rattle.plan_spec.specs.Lists.{concat}
-use Rattle.plan_spec.specs.Walk.{Walk, start, walk_from, stopped}
+use Rattle.plan_spec.specs.Walk.{Walk, start, walk_from}
 use Rattle.plan_spec.proofs.Steps.{Run}
 use Rattle.state.specs.declared.State.{State}
 use Rattle.state.specs.Steps.{BeforeJoin, Joined, BeforeRemoval, Removed, Closed}
-use Rattle.refusals.specs.Answer.{Answer, given}
+use Rattle.refusals.specs.Answer.{Answer, given, refused_at}
 use Rattle.kernels.specs.declared.active.PrecomputedActivePauliMeasurementKernel.{PrecomputedActivePauliMeasurementKernel}
 use Rattle.work_sums.specs.declared.Tally.{Tally}
 use Rattle.work_sums.specs.declared.Joining.{Joining}
@@ -67,7 +67,7 @@ abbrev pub StepEnds : ℕ → ℕ → List ℕ → ℕ → Result Unit Reason �
     → Type 0
 StepEnds limit k ws i (Ok done) o s t c = Looping limit k ws (i + 1) o s t c
 StepEnds limit k ws i (Err reason) o s t c =
-    walk_from limit 0 (start k) (instructions_of ws) ≡ stopped (number_of reason) i
+    walk_from limit 0 (start k) (instructions_of ws) ≡ refused_at (number_of reason) i
 
 -- ---- its join
 

@@ -1,13 +1,14 @@
 -- What the contract of `walk` says: it stops where the definition's walk stops, or leaves in
 -- front of each buffer what the definition's walk has written.
 use Rattle.std.specs.Prelude.{ℕ, ◌/◌, ◌%◌, ◌^◌, ◌≤◌, ◌≡◌, List, false, length, Result, Ok, Err}
+use Rattle.refusals.specs.Answer.{completed, refused_at}
 use Rattle.words.specs.Lists.{Begins}
 use Rattle.refusals.specs.Numbers.{number_of}
 use Rattle.refusals.specs.declared.Refusal.{Refusal}
 use Rattle.records.specs.Pass.{Passed, record_pass}
 use Rattle.plan_spec.specs.Lists.{concat}
 use Rattle.plan_spec.specs.Components.{live_dimension}
-use Rattle.plan_spec.specs.Walk.{Walk, Walked, finished, stopped}
+use Rattle.plan_spec.specs.Walk.{Walk, Walked}
 use Rattle.plan_spec.specs.Plan.{groups_of, words_refused, buffers_refused}
 use Rattle.work_sums.specs.declared.Tally.{Tally}
 use Rattle.plan_buffers.specs.SevenBuffers.{Buffers, lengths_of}
@@ -44,10 +45,10 @@ pub record Ended (w : Walk) (s : Summary) (b : Buffers) : Type 0 where
 -- the code's answer goes with the definition's: a refusal with the same number and index, or a
 -- state whose words were written
 abbrev pub WalkEnds : Walked → Result Summary Refusal → Buffers → Type 0
-WalkEnds (finished w) (Ok s) b = Ended w s b
-WalkEnds (finished w) (Err refusal) b = ⊥
-WalkEnds (stopped n i) (Ok s) b = ⊥
-WalkEnds (stopped n i) (Err refusal) b = (n ≡ number_of refusal.reason) × (i ≡ refusal.index)
+WalkEnds (completed w) (Ok s) b = Ended w s b
+WalkEnds (completed w) (Err refusal) b = ⊥
+WalkEnds (refused_at n i) (Ok s) b = ⊥
+WalkEnds (refused_at n i) (Err refusal) b = (n ≡ number_of refusal.reason) × (i ≡ refusal.index)
 
 -- what refusals 2 to 10 leave to the walk
 pub record Walkable (initial : ℕ) (ws : List ℕ) (b : Buffers) : Type 0 where
