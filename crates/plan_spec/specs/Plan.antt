@@ -7,7 +7,7 @@ use Rattle.refusals.specs.Answer.{Outcome, completed, refused_at}
 use Rattle.words.specs.Lists.{padded}
 use Rattle.kernels.specs.Bits.{dimension}
 use Rattle.records.specs.Record.{record_words, record_count, instructions_of}
-use Rattle.records.specs.Pass.{most_coordinates, Checked, Passed, record_pass}
+use Rattle.records.specs.Pass.{most_coordinates, Checked, record_pass}
 use Rattle.records.specs.declared.Head.{Head}
 use Rattle.plan_spec.specs.Rows.{measurement_words, rotation_words, step_words}
 use Rattle.plan_spec.specs.Lists.{concat}
@@ -160,7 +160,7 @@ after_walk initial dense_peak (refused_at number index) = refused_at number inde
 
 -- "The record pass ends before the walk begins"
 abbrev pub after_pass : (limit initial dense_peak : ℕ) → (words : List ℕ) → Checked → Result
-after_pass limit initial dense_peak words Passed =
+after_pass limit initial dense_peak words (completed passed) =
     after_walk initial dense_peak (walk_from limit 0 (start initial) (instructions_of words))
 after_pass limit initial dense_peak words (refused_at number index) = refused_at number index
 
