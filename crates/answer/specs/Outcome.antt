@@ -1,7 +1,7 @@
 -- What an answer says, the code's and the definition's: the values of a plan's fields, or the
 -- refusal.
 use Rattle.std.specs.Prelude.{ℕ, ◌*◌, ◌^◌, ◌<◌, length, Bool, Float, Result as Answered, Ok, Err}
-use Rattle.refusals.specs.Answer.{completed, refused_at}
+use Rattle.refusals.specs.Answer.{completed, refused_at, Outcome}
 use Rattle.plan_spec.specs.Rows.{measurement_words, rotation_words}
 use Rattle.plan_spec.specs.WholeWorks.{WholeWorks, whole_works_of}
 use Rattle.plan_spec.specs.Plan.{Plan, Result, chosen}
@@ -14,20 +14,43 @@ use Rattle.answer.specs.declared.ActiveComponentPlan.{ActiveComponentPlan}
 
 -- "The result's eight scalar fields, in order", 02's whole works (CR 1) and how many words of the
 -- first six outputs are used (CR 2), or "its number and record index"
-pub data Outcome : Type 0 where
-  accepted : (selected : Bool) (initial_components component_count : ℕ)
-      (dense_work component_work : Float) (dense_peak peak allocated : ℕ)
-      (whole : WholeWorks) (used : WordCounts) → Outcome
-  turned_away : (number index : ℕ) → Outcome
+pub record Fields : Type 0 where
+  pub selected : Bool
+  pub initial_components : ℕ
+  pub component_count : ℕ
+  pub dense_work : Float
+  pub component_work : Float
+  pub dense_peak : ℕ
+  pub peak : ℕ
+  pub allocated : ℕ
+  pub whole_works : WholeWorks
+  pub used : WordCounts
+
+abbrev pub accepted : (selected : Bool) (initial_components component_count : ℕ)
+    (dense_work component_work : Float) (dense_peak peak allocated : ℕ)
+    (whole_works : WholeWorks) (used : WordCounts) → Outcome Fields
+accepted selected initial count dense component dense_peak peak allocated whole used =
+    completed (record {
+      selected = selected;
+      initial_components = initial;
+      component_count = count;
+      dense_work = dense;
+      component_work = component;
+      dense_peak = dense_peak;
+      peak = peak;
+      allocated = allocated;
+      whole_works = whole;
+      used = used;
+    })
 
 -- of the code's answer
-abbrev pub outcome_of : Answered ActiveComponentPlan Refusal → Outcome
+abbrev pub outcome_of : Answered ActiveComponentPlan Refusal → Outcome Fields
 outcome_of (Ok p) =
     accepted p.selected p.initial_components p.component_count
     p.estimated_dense_work p.estimated_component_work
     p.dense_peak_dimension p.component_peak_live_dimension p.component_allocated_dimension
     (works_of p.whole_works) p.used
-outcome_of (Err refusal) = turned_away (number_of refusal.reason) refusal.index
+outcome_of (Err refusal) = refused_at (number_of refusal.reason) refusal.index
 
 -- how many words of the first six outputs a plan uses
 abbrev pub used_in : Plan → WordCounts
@@ -41,11 +64,11 @@ used_in p = record {
 }
 
 -- of the definition's result
-abbrev pub outcome_in : Result → Outcome
+abbrev pub outcome_in : Result → Outcome Fields
 outcome_in (completed p) =
     accepted p.selected p.initial_components p.component_count
     p.dense_work p.component_work p.dense_peak p.peak p.allocated p.whole_works (used_in p)
-outcome_in (refused_at number index) = turned_away number index
+outcome_in (refused_at number index) = refused_at number index
 
 -- ---- from a finished walk over n records
 
@@ -67,7 +90,7 @@ pub record UsedFit (done : Summary) (n : ℕ) : Type 0 where
   pub measurements : measurement_words * done.tally.measurements < 2 ^ 64
 
 -- what its answer says, where its sizes allocate so much
-abbrev pub finished_outcome : (initial dense_peak : ℕ) → Summary → (n allocated : ℕ) → Outcome
+abbrev pub finished_outcome : (initial dense_peak : ℕ) → Summary → (n allocated : ℕ) → Outcome Fields
 finished_outcome initial dense_peak done n allocated =
     let t = done.tally in
     accepted (chosen t.quantum t.dense t.work allocated dense_peak)

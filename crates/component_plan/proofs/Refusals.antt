@@ -29,7 +29,7 @@ use Rattle.walk.specs.declared.Summary.{Summary}
 use Rattle.plan_buffers.specs.SevenBuffers.{Buffers, lengths_of, SameLengths, padded_buffers, no_words, Held}
 use Rattle.walk.specs.Walking.{Ended, WalkEnds}
 use Rattle.plan_buffers.specs.declared.WordCounts.{WordCounts}
-use Rattle.answer.specs.Outcome.{accepted, turned_away, outcome_of, used_in, outcome_in}
+use Rattle.answer.specs.Outcome.{accepted, outcome_of, used_in, outcome_in}
 use Rattle.component_plan.specs.Answer.{Answers, Filled}
 use Rattle.component_plan.specs.Refusing.{peak_answer, head_answer, lent_number}
 
@@ -189,7 +189,7 @@ module _ (h : Head) (ws : List ℕ) (l : Lengths) (dense_peak : ℕ) (decided : 
 -- ---- the answer of the whole, with zeros after a refusal
 
 -- a refusal's outcome is a refusal's
-pub away : (result : Result) (number index : ℕ) → turned_away number index ≡ outcome_in result → result ≡ refused_at number index
+pub away : (result : Result) (number index : ℕ) → refused_at number index ≡ outcome_in result → result ≡ refused_at number index
 away (completed p) number index e = let z : ◌≡◌ {A = ℕ} 0 1 = cc in absurd (omega arith)
 away (refused_at n i) number index e = let same : n ≡ number = cc in let at : i ≡ index = cc in ap₂ refused_at same at
 

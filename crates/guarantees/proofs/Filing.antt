@@ -9,7 +9,7 @@ use lib.Dec.{ltb}
 use lib.ListN.{length, get_or, take}
 use Rattle.std.proofs.lemmas.List.{get_or_append_left}
 use lib.Seq.{get_or-append-add}
-use Rattle.refusals.specs.Answer.{completed, refused_at}
+use Rattle.refusals.specs.Answer.{completed, refused_at, Outcome, given, refused}
 use Rattle.words.specs.Lists.{padded}
 use Rattle.words.proofs.Padded.{front_of_padded}
 use Rattle.words.proofs.Bytes.{length_words}
@@ -21,9 +21,9 @@ use Rattle.plan_buffers.specs.declared.WordCounts.{WordCounts}
 use Rattle.plan_buffers.specs.SevenBuffers.{Buffers, lengths_of}
 use Rattle.plan_buffers.specs.SixOutputs.{Outputs, word_counts_of}
 use Rattle.stored_plan.specs.Stored.{Kept, file_of}
-use Rattle.stored_plan.specs.Reading.{Read, restored, refused, counts_of, counts_refused, kept_in, file_refused, places_refused, read_file}
+use Rattle.stored_plan.specs.Reading.{Read, counts_of, counts_refused, kept_in, file_refused, places_refused, read_file}
 use Rattle.stored_plan.specs.Loading as Loading
-use Rattle.stored_plan.specs.Loading.{number_of, scalar_list, Restored}
+use Rattle.stored_plan.specs.Loading.{loaded, number_of, scalar_list, Restored}
 use Rattle.stored_plan.proofs.RoundTrip.{restored_same}
 use Rattle.stored_plan.proofs.Accepting.{refuse, accepted}
 use Rattle.store.specs.Storing as Storing
@@ -62,7 +62,7 @@ file_answer h ws before after file filed n (LeavesFile.reply res words room a) =
     ap (λ (l : List ℕ). get_or l 1 0) (a.result ∙ ap (λ (x : Result). laid_out (length res) (store_words (Storing.outcome_in x))) found.is)
     ∙ word_there (length res) told 1 (omega arith) in
     record {
-      answer = ap Storing.written same ∙ sym (ap Storing.outcome_in found.is);
+      answer = ap completed same ∙ sym (ap Storing.outcome_in found.is);
       held = a.held;
       bytes = a.bytes;
     }
@@ -70,7 +70,7 @@ file_answer h ws before after file filed n (LeavesFile.reply res words room a) =
 -- ---- loading
 
 -- outputs that hold sections, by their counts
-kept_held : (k : Kept) (before after : Outputs) → Restored (restored k) before after → kept_told k.scalars (counts_of k) after ≡ k
+kept_held : (k : Kept) (before after : Outputs) → Restored (given k) before after → kept_told k.scalars (counts_of k) after ≡ k
 kept_held k before after held =
     let front : (m : ℕ) (ws xs : List ℕ) → xs ≡ padded m ws → take (length ws) xs ≡ ws = λ m ws xs e. front_of_padded m (length ws) ws xs refl e in
     λ j. record {
@@ -84,7 +84,7 @@ kept_held k before after held =
     }
 
 -- what a file that is read keeps has eight scalar words
-eight_scalars : (file : List ℕ) (lent : WordCounts) (k : Kept) → read_file file lent ≡ restored k → length k.scalars ≡ 8
+eight_scalars : (file : List ℕ) (lent : WordCounts) (k : Kept) → read_file file lent ≡ given k → length k.scalars ≡ 8
 eight_scalars file lent k e =
     let a = accepted file lent (ap number_of e) in
     let same = restored_same (kept_in file) k (sym a.read ∙ e) in
@@ -93,14 +93,14 @@ eight_scalars file lent k e =
 -- the words of its reply
 module _ (k : Kept) (eight : length k.scalars ≡ 8) (n : ℕ) (room : 15 ≤ n) where
   abbrev told : List ℕ
-  told = laid_out n (load_words (Loading.outcome_in (restored k)))
+  told = laid_out n (load_words (Loading.outcome_in (given k)))
 
   abbrev counts : List ℕ
   counts = length k.steps ∷ length k.merges ∷ length k.sizes ∷ length k.rotations ∷ length k.promotions ∷ length k.measurements ∷ []
 
   scalar_back : (i : ℕ) → i < 8 → get_or told (suc i) 0 ≡ get_or k.scalars i 0
   scalar_back i h =
-      word_there n (load_words (Loading.outcome_in (restored k))) (suc i) (omega arith)
+      word_there n (load_words (Loading.outcome_in (given k))) (suc i) (omega arith)
       ∙ get_or_append_left k.scalars counts 0 i (omega arith)
 
   scalars_back : scalars_told told ≡ k.scalars
@@ -116,7 +116,7 @@ module _ (k : Kept) (eight : length k.scalars ≡ 8) (n : ℕ) (room : 15 ≤ n)
 
   count_back : (i : ℕ) → i < 6 → get_or told (suc (8 + i)) 0 ≡ get_or counts i 0
   count_back i h =
-      word_there n (load_words (Loading.outcome_in (restored k))) (suc (8 + i)) (omega arith)
+      word_there n (load_words (Loading.outcome_in (given k))) (suc (8 + i)) (omega arith)
       ∙ ap (λ (m : ℕ). get_or (k.scalars ++ counts) (m + i) 0) (sym eight)
       ∙ get_or-append-add k.scalars counts i 0
 
@@ -132,16 +132,16 @@ module _ (k : Kept) (eight : length k.scalars ≡ 8) (n : ℕ) (room : 15 ≤ n)
 
 module _ (file : List ℕ) (before after : Outputs) where
   -- a file that is read: every call says what it keeps
-  pub kept_read : (k : Kept) (o : Option Kept) → read_file file (word_counts_of before) ≡ restored k → LeavesKept file before after o
-      → (o ≡ Some k) × Restored (restored k) before after
+  pub kept_read : (k : Kept) (o : Option Kept) → read_file file (word_counts_of before) ≡ given k → LeavesKept file before after o
+      → (o ≡ Some k) × Restored (given k) before after
   kept_read k o e (LeavesKept.answer s a) =
       let held = subst (λ (x : Read). Restored x before after) e a.held in
-      let given : Loading.given (scalar_list s.scalars) s.counts ≡ Loading.given k.scalars (counts_of k) = a.answer ∙ ap Loading.outcome_in e in
+      let same_answer : given (loaded (scalar_list s.scalars) s.counts) ≡ given (loaded k.scalars (counts_of k)) = a.answer ∙ ap Loading.outcome_in e in
       let scalars : scalar_list s.scalars ≡ k.scalars = cc in
       let counts : s.counts ≡ counts_of k = cc in
       (ap Some (ap₂ (λ (x : List ℕ) (y : WordCounts). kept_told x y after) scalars counts ∙ kept_held k before after held), held)
   kept_read k o e (LeavesKept.refusal r a) =
-      let given : Loading.turned_away (Reasons.number_of r) ≡ Loading.given k.scalars (counts_of k) = a.answer ∙ ap Loading.outcome_in e in
+      let same_answer : refused (Reasons.number_of r) ≡ given (loaded k.scalars (counts_of k)) = a.answer ∙ ap Loading.outcome_in e in
       let z : ◌≡◌ {A = ℕ} 0 1 = cc in absurd (omega arith)
   kept_read k o e (LeavesKept.reply res words room a) =
       let held = subst (λ (x : Read). Restored x before after) e a.held in
@@ -157,7 +157,7 @@ module _ (file : List ℕ) (before after : Outputs) where
   not_zero : (m : ℕ) → read_file file (word_counts_of before) ≡ refused m → 0 < m
   not_zero m e = go (file_refused file) (places_refused file) (counts_refused (word_counts_of before) (kept_in file)) e
     where
-      go : (a b c : Bool) → refuse a 21 (refuse b 22 (refuse c 23 (restored (kept_in file)))) ≡ refused m → 0 < m
+      go : (a b c : Bool) → refuse a 21 (refuse b 22 (refuse c 23 (given (kept_in file)))) ≡ refused m → 0 < m
       go true b c e = let z : 21 ≡ m = cc in omega arith
       go false true c e = let z : 22 ≡ m = cc in omega arith
       go false false true e = let z : 23 ≡ m = cc in omega arith
@@ -166,16 +166,16 @@ module _ (file : List ℕ) (before after : Outputs) where
   -- no call says that a file keeps something that is refused
   none_kept : (m : ℕ) (k : Kept) → read_file file (word_counts_of before) ≡ refused m → LeavesKept file before after (Some k) → ⊥
   none_kept m k e (LeavesKept.answer s a) =
-      let given : Loading.given (scalar_list s.scalars) s.counts ≡ Loading.turned_away m = a.answer ∙ ap Loading.outcome_in e in
+      let same_answer : given (loaded (scalar_list s.scalars) s.counts) ≡ refused m = a.answer ∙ ap Loading.outcome_in e in
       let z : ◌≡◌ {A = ℕ} 0 1 = cc in absurd (omega arith)
   none_kept m k e (LeavesKept.reply res words room a) =
       let some = not_zero m e in
       let z : 0 ≡ m = a.number ∙ ap (λ (x : Read). load_number (Loading.outcome_in x)) e in absurd (omega arith)
 
   -- so what a call says that a file keeps is what reading gives
-  pub kept_is : (k : Kept) → LeavesKept file before after (Some k) → read_file file (word_counts_of before) ≡ restored k
+  pub kept_is : (k : Kept) → LeavesKept file before after (Some k) → read_file file (word_counts_of before) ≡ given k
   kept_is k leaves = go (read_file file (word_counts_of before)) refl
     where
-      go : (x : Read) → read_file file (word_counts_of before) ≡ x → read_file file (word_counts_of before) ≡ restored k
-      go (restored l) e = let both = (kept_read l (Some k) e leaves).0 in let same : k ≡ l = cc in e ∙ ap restored (sym same)
+      go : (x : Read) → read_file file (word_counts_of before) ≡ x → read_file file (word_counts_of before) ≡ given k
+      go (given l) e = let both = (kept_read l (Some k) e leaves).0 in let same : k ≡ l = cc in e ∙ ap given (sym same)
       go (refused m) e = absurd (none_kept m k e leaves)

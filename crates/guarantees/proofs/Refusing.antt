@@ -10,7 +10,7 @@ use Rattle.refusals.specs.Answer.{completed, refused_at}
 use Rattle.refusals.specs.Numbers as Reasons
 use Rattle.records.specs.declared.Head.{Head}
 use Rattle.plan_spec.specs.Plan.{Result, plan_of}
-use Rattle.answer.specs.Outcome.{turned_away, outcome_in}
+use Rattle.answer.specs.Outcome.{outcome_in}
 use Rattle.midvokt.specs.Reply.{number_of, words_of, laid_out}
 use Rattle.guarantees.specs.Calls.{Leaves, Refuses, zeroed}
 use Rattle.guarantees.proofs.Leaving.{word_there}
@@ -22,7 +22,7 @@ pub record RefusedAt (result : Result) (number : ℕ) : Type 0 where
   pub is : result ≡ refused_at number index
 
 -- an outcome that turns away is that of a refusal
-by_outcome : (result : Result) (number index : ℕ) → turned_away number index ≡ outcome_in result → result ≡ refused_at number index
+by_outcome : (result : Result) (number index : ℕ) → refused_at number index ≡ outcome_in result → result ≡ refused_at number index
 by_outcome (completed p) number index e = let z : ◌≡◌ {A = ℕ} 0 1 = cc in absurd (omega arith)
 by_outcome (refused_at n i) number index e = cc
 

@@ -9,31 +9,32 @@ use native.Mathlib.Omega.{arith}
 use lib.ListN.{length, get_or}
 use Rattle.std.proofs.lemmas.List.{take_at, get_or_append_left}
 use Rattle.std.proofs.lemmas.List.FromFn.{length-range_with_len, get_or-range_with_len}
+use Rattle.refusals.specs.Answer.{Outcome, completed, refused_at}
 use Rattle.pending.specs.Operation.{Operation, operations_of, is_expectation}
 use Rattle.pending.proofs.Chunks.{count, operation_length, words_count, operations_joined}
-use Rattle.optimizer_spec.specs.Optimizing.{optimized, as_it_is, outcome_of}
+use Rattle.optimizer_spec.specs.Optimizing.{as_it_is, outcome_of}
 use Rattle.optimizer.specs.declared.Counts.{Counts}
-use Rattle.optimizer.specs.Answer.{Answers, Told, counted, turned_away, told_in, held, list_in, map_in, counts_list}
+use Rattle.optimizer.specs.Answer.{Answers, told_in, held, list_in, map_in, counts_list}
 use Rattle.optimizer.proofs.Judging.{decided, form, beyond, odd, is_decided}
 use Rattle.guarantees.specs.Promises.{IsUnchanged}
 
 -- an answer with counts is that of the list as it is
-by_expectation : (words prefixes counts : List ℕ) (f b : Bool) (o : Option ℕ) → counted counts ≡ told_in (decided words prefixes f true b o)
-    → decided words prefixes f true b o ≡ optimized (as_it_is (operations_of words))
+by_expectation : (words prefixes counts : List ℕ) (f b : Bool) (o : Option ℕ) → completed counts ≡ told_in (decided words prefixes f true b o)
+    → decided words prefixes f true b o ≡ completed (as_it_is (operations_of words))
 by_expectation words prefixes counts false b o e = let z : ◌≡◌ {A = ℕ} 0 1 = cc in absurd (omega arith)
 by_expectation words prefixes counts true b o e = refl
 
 -- the counts that a call tells
-counts_of : Told → List ℕ
-counts_of (counted counts) = counts
-counts_of (turned_away number index) = []
+counts_of : (Outcome (List ℕ)) → List ℕ
+counts_of (completed counts) = counts
+counts_of (refused_at number index) = []
 
 module _ (width : ℕ) (words prefixes list_before list map_before map : List ℕ) (r : Counts) (answers : Answers width words prefixes list_before list map_before map (Ok r))
     (has : list_any is_expectation (operations_of words) ≡ true) where
   abbrev os : List Operation
   os = operations_of words
 
-  as_it_was : outcome_of width words prefixes (length list_before) (length map_before) ≡ optimized (as_it_is os)
+  as_it_was : outcome_of width words prefixes (length list_before) (length map_before) ≡ completed (as_it_is os)
   as_it_was =
       let f = form width words prefixes (length list_before) (length map_before) in
       let b = beyond width words prefixes (length list_before) (length map_before) in

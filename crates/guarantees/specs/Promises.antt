@@ -3,7 +3,7 @@
 use Rattle.std.specs.Prelude.{ℕ, ◌≡◌, ◌≤◌, ◌<◌, ◌+◌, ◌*◌, ◌/◌, ◌^◌, ◌⊎◌, List, Option, Some, None, length, get_or, take, false, true, pos}
 use Rattle.std.specs.Float.{fin}
 use Rattle.std.specs.List.{list_any}
-use Rattle.refusals.specs.Answer.{completed}
+use Rattle.refusals.specs.Answer.{completed, given}
 use Rattle.words.specs.Lists.{part_of}
 use Rattle.words.specs.Words.{Bytes}
 use Rattle.records.specs.Record.{kind, sine, cosine, record_at, instructions_of}
@@ -23,7 +23,7 @@ use Rattle.plan_buffers.specs.SevenBuffers.{Buffers, lengths_of}
 use Rattle.plan_buffers.specs.declared.WordCounts.{WordCounts}
 use Rattle.plan_buffers.specs.SixOutputs.{Outputs, word_counts_of}
 use Rattle.stored_plan.specs.Stored.{Kept, kept_of, bytes_of, file_of}
-use Rattle.stored_plan.specs.Reading.{restored, trailer_word}
+use Rattle.stored_plan.specs.Reading.{trailer_word}
 use Rattle.stored_plan.specs.Loading.{Restored}
 use Rattle.stored_plan.specs.Laws.{LongEnough, SamePlan}
 use Rattle.pending.specs.Operation.{operations_of, is_expectation}
@@ -239,7 +239,7 @@ IsReadBack p file =
     (before after : Outputs) (o : Option Kept)
     → LongEnough p (word_counts_of before)
     → LeavesKept file before after o
-    → (o ≡ Some (kept_of p)) × Restored (restored (kept_of p)) before after
+    → (o ≡ Some (kept_of p)) × Restored (given (kept_of p)) before after
 
 -- n bytes are the plan's file, n is its length and the one in its trailer, and they are read back
 pub record IsFileOf (p : Plan) (filed : List ℕ) (n : ℕ) : Type 0 where

@@ -4,22 +4,23 @@ use Rattle.std.specs.Prelude.{not, leb, ltb, eqb, Option}
 use Rattle.std.specs.List.{list_any, position_from}
 use borrow.Author.Tests.{eqb-true, leb-true, ltb-true}
 use mathlib.Core.Path.{◌∙◌}
+use Rattle.refusals.specs.Answer.{Outcome, completed, refused_at}
 use Rattle.pending.specs.Operation.{operations_of, is_expectation}
 use Rattle.pending.specs.Form.{form_fits}
-use Rattle.optimizer_spec.specs.Optimizing.{Outcome, optimized, refused, refuse_at, as_it_is, in_segments, is_odd_rotation, outcome_of}
+use Rattle.optimizer_spec.specs.Optimizing.{Optimized, refuse_at, as_it_is, in_segments, is_odd_rotation, outcome_of}
 use Rattle.optimizer.specs.declared.checks.Verdict.{Verdict}
 use Rattle.optimizer.proofs.Laws.{both_front, both_behind}
 use Rattle.optimizer.specs.Answer.{PrefixesInside, Sound}
 
 -- the outcome by the four answers
-abbrev pub decided : (words prefixes : List ℕ) → (form expectation beyond : Bool) → (odd : Option ℕ) → Outcome
+abbrev pub decided : (words prefixes : List ℕ) → (form expectation beyond : Bool) → (odd : Option ℕ) → (Outcome Optimized)
 decided words prefixes form expectation beyond odd =
     let os = operations_of words in
-    cond (not form) (refused 26 0)
-    (cond expectation (optimized (as_it_is os))
-    (cond beyond (refused 27 0)
+    cond (not form) (refused_at 26 0)
+    (cond expectation (completed (as_it_is os))
+    (cond beyond (refused_at 27 0)
     (refuse_at odd 28
-    (optimized (in_segments os prefixes)))))
+    (completed (in_segments os prefixes)))))
 
 module _ (width : ℕ) (words prefixes : List ℕ) (optimized_len map_len : ℕ) where
   abbrev pub form : Bool

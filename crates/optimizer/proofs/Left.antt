@@ -7,16 +7,17 @@ use mathlib.Core.Path.{◌∙◌}
 use lib.ListN.{get_or-map}
 use Rattle.std.proofs.lemmas.List.{length-map, take_at, get_or_append_left, get_or_default}
 use Rattle.std.proofs.lemmas.List.FromFn.{length-range_with_len, get_or-range_with_len}
+use Rattle.refusals.specs.Answer.{Outcome, completed, refused_at}
 use Rattle.pending.specs.Operation.{Operation, operations_of, is_expectation}
 use Rattle.pending.proofs.Chunks.{count, operation_length, words_count, operations_joined}
 use Rattle.optimizer_spec.specs.Passes.{placed}
-use Rattle.optimizer_spec.specs.Optimizing.{optimized, in_segments, outcome_of}
+use Rattle.optimizer_spec.specs.Optimizing.{in_segments, outcome_of}
 use Rattle.optimizer_spec.specs.Claims.{output, boundary_of}
 use Rattle.optimizer_spec.proofs.Claimed.{claimed}
 use Rattle.optimizer_spec.proofs.Further.{further}
 use Rattle.optimizer.specs.declared.Counts.{Counts}
 use Rattle.optimizer.specs.Working.{bare}
-use Rattle.optimizer.specs.Answer.{Told, counted, turned_away, told_in, held, list_in, map_in, counts_list, Answers}
+use Rattle.optimizer.specs.Answer.{told_in, held, list_in, map_in, counts_list, Answers}
 use Rattle.optimizer.specs.Laws.{Left}
 use Rattle.optimizer.proofs.Judging.{decided, form, beyond, odd, is_decided}
 
@@ -25,8 +26,8 @@ module _ (words prefixes : List ℕ) where
   os = operations_of words
 
   -- an answer with counts, where no expectation value keeps the list as it is, is that of the segments
-  by_segments : (counts : List ℕ) (f b : Bool) (o : Option ℕ) → counted counts ≡ told_in (decided words prefixes f false b o) →
-      decided words prefixes f false b o ≡ optimized (in_segments os prefixes)
+  by_segments : (counts : List ℕ) (f b : Bool) (o : Option ℕ) → completed counts ≡ told_in (decided words prefixes f false b o) →
+      decided words prefixes f false b o ≡ completed (in_segments os prefixes)
   by_segments counts false b o told = let z : ◌≡◌ {A = ℕ} 0 1 = cc in absurd (omega arith)
   by_segments counts true true o told = let z : ◌≡◌ {A = ℕ} 0 1 = cc in absurd (omega arith)
   by_segments counts true false (Some i) told = let z : ◌≡◌ {A = ℕ} 0 1 = cc in absurd (omega arith)
@@ -44,14 +45,14 @@ module _ (words prefixes : List ℕ) where
       ∙ operation_length words it.place (omega (arith, count words))
 
 -- the counts that a call tells
-counts_of : Told → List ℕ
-counts_of (counted counts) = counts
-counts_of (turned_away number index) = []
+counts_of : (Outcome (List ℕ)) → List ℕ
+counts_of (completed counts) = counts
+counts_of (refused_at number index) = []
 
 module _ (width : ℕ) (words prefixes list_before list map_before map : List ℕ) (r : Counts) (answers : Answers width words prefixes list_before list map_before map (Ok r))
     (no_expectation : list_any is_expectation (operations_of words) ≡ false) where
   -- the outcome is that of the segments
-  is_optimized : outcome_of width words prefixes (length list_before) (length map_before) ≡ optimized (in_segments (operations_of words) prefixes)
+  is_optimized : outcome_of width words prefixes (length list_before) (length map_before) ≡ completed (in_segments (operations_of words) prefixes)
   is_optimized =
       let here = is_decided width words prefixes (length list_before) (length map_before)
       ∙ ap (λ (e : Bool). decided words prefixes (form width words prefixes (length list_before) (length map_before)) e (beyond width words prefixes (length list_before) (length map_before)) (odd width words prefixes (length list_before) (length map_before))) no_expectation in

@@ -1,20 +1,21 @@
 -- What the contract of `optimize_pending_operations` says: its answer, and every word of the lent list and map, for what optimizing gives.
 use Rattle.std.specs.Prelude.{ℕ, ◌-◌, ◌/◌, ◌%◌, ◌<◌, ◌≤◌, ◌≡◌, List, [], ◌∷◌, ◌++◌, true, false, length, replicate, Result, Ok, Err, nat_lt}
 use Rattle.std.specs.List.{list_any, list_all, concat}
+use Rattle.refusals.specs.Answer.{Outcome, completed, refused_at}
 use Rattle.refusals.specs.Numbers as Reasons
 use Rattle.refusals.specs.declared.Refusal.{Refusal}
 use Rattle.pending.specs.Operation.{operations_of}
 use Rattle.pending.specs.Form.{operation_fits}
-use Rattle.optimizer_spec.specs.Optimizing.{Outcome, Optimized, optimized, refused, as_it_is, in_segments, outcome_of}
+use Rattle.optimizer_spec.specs.Optimizing.{Optimized, as_it_is, in_segments, outcome_of}
 use Rattle.optimizer.specs.declared.checks.Verdict.{Verdict}
 use Rattle.optimizer.specs.declared.Counts.{Counts}
 use Rattle.optimizer.specs.declared.checks.Verdict.TheVariants.{AsItIs, InSegments}
 
 -- of the code's verdict
-abbrev pub verdict_of : Result Verdict Refusal → (words prefixes : List ℕ) → Outcome
-verdict_of (Ok AsItIs) words prefixes = optimized (as_it_is (operations_of words))
-verdict_of (Ok InSegments) words prefixes = optimized (in_segments (operations_of words) prefixes)
-verdict_of (Err refusal) words prefixes = refused (Reasons.number_of refusal.reason) refusal.index
+abbrev pub verdict_of : Result Verdict Refusal → (words prefixes : List ℕ) → (Outcome Optimized)
+verdict_of (Ok AsItIs) words prefixes = completed (as_it_is (operations_of words))
+verdict_of (Ok InSegments) words prefixes = completed (in_segments (operations_of words) prefixes)
+verdict_of (Err refusal) words prefixes = refused_at (Reasons.number_of refusal.reason) refusal.index
 
 -- for a list that is optimized in segments no prefix is beyond it
 abbrev pub PrefixesInside : Verdict → (n : ℕ) → (prefixes : List ℕ) → Type 0
@@ -36,34 +37,29 @@ pub record Sound (width : ℕ) (words prefixes : List ℕ) (optimized_len map_le
 abbrev pub counts_list : Counts → List ℕ
 counts_list c = c.input ∷ c.output ∷ c.fused ∷ c.cancelled ∷ c.swaps ∷ []
 
--- what a call tells: the five counts, or a refusal's number and index
-pub data Told : Type 0 where
-  counted : (counts : List ℕ) → Told
-  turned_away : (number index : ℕ) → Told
-
--- of the code's answer
-abbrev pub told_of : Result Counts Refusal → Told
-told_of (Ok counts) = counted (counts_list counts)
-told_of (Err refusal) = turned_away (Reasons.number_of refusal.reason) refusal.index
+-- what a call tells: the five counts, or a refusal's number and index; of the code's answer
+abbrev pub told_of : Result Counts Refusal → (Outcome (List ℕ))
+told_of (Ok counts) = completed (counts_list counts)
+told_of (Err refusal) = refused_at (Reasons.number_of refusal.reason) refusal.index
 
 -- of the definition's
-abbrev pub told_in : Outcome → Told
-told_in (optimized o) = counted o.counts
-told_in (refused number index) = turned_away number index
+abbrev pub told_in : (Outcome Optimized) → (Outcome (List ℕ))
+told_in (completed o) = completed o.counts
+told_in (refused_at number index) = refused_at number index
 
 -- n words that begin with these, "then zeros"
 abbrev pub held : (n : ℕ) → List ℕ → List ℕ
 held n ws = ws ++ replicate (n - length ws) 0
 
 -- n words of the list: the operations that are left, zeros behind them, and after a refusal zeros alone
-abbrev pub list_in : (n : ℕ) → Outcome → List ℕ
-list_in n (optimized o) = held n (concat o.operations)
-list_in n (refused number index) = held n []
+abbrev pub list_in : (n : ℕ) → (Outcome Optimized) → List ℕ
+list_in n (completed o) = held n (concat o.operations)
+list_in n (refused_at number index) = held n []
 
 -- n words of the map
-abbrev pub map_in : (n : ℕ) → Outcome → List ℕ
-map_in n (optimized o) = held n o.map
-map_in n (refused number index) = held n []
+abbrev pub map_in : (n : ℕ) → (Outcome Optimized) → List ℕ
+map_in n (completed o) = held n o.map
+map_in n (refused_at number index) = held n []
 
 -- the answer and every word of list and map are the definition's, whatever they held
 pub record Answers (width : ℕ) (words prefixes list_before list_after map_before map_after : List ℕ) (r : Result Counts Refusal) : Type 0 where

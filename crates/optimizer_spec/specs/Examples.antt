@@ -1,8 +1,9 @@
 -- Calls with the whole answer beside each: list, map and counts as the Rust gives them, and refusals as 02, CR 6, has them.
 use Rattle.std.specs.Prelude.{ℕ, suc, ◌-◌, ◌*◌, ◌^◌, List, [], ◌∷◌, length, set}
+use Rattle.refusals.specs.Answer.{Outcome, completed, refused_at}
 use Rattle.pending.specs.Operation.{Operation}
 use Rattle.pending.specs.Examples.{sign, plain, opposite, none, some, rotation, measurement, classical, words_of, half, quarter, eighth, most, minus}
-use Rattle.optimizer_spec.specs.Optimizing.{Outcome, optimized, refused, outcome_of}
+use Rattle.optimizer_spec.specs.Optimizing.{Optimized, outcome_of}
 
 pub record Call : Type 0 where
   pub width : ℕ
@@ -10,24 +11,24 @@ pub record Call : Type 0 where
   pub prefixes : List ℕ
   pub optimized_len : ℕ
   pub map_len : ℕ
-  pub answer : Outcome
+  pub answer : (Outcome Optimized)
 
 -- the Rust's -1 in a map
 abbrev unset : ℕ
 unset = 2 ^ 64 - 1
 
-abbrev call_with : (optimized_len map_len width : ℕ) → (prefixes : List ℕ) → List Operation → Outcome → Call
+abbrev call_with : (optimized_len map_len width : ℕ) → (prefixes : List ℕ) → List Operation → (Outcome Optimized) → Call
 call_with optimized_len map_len width prefixes os answer =
     record { width = width; operations = os; prefixes = prefixes; optimized_len = optimized_len; map_len = map_len; answer = answer }
 
 -- with outputs that are just long enough
-abbrev call : (width : ℕ) → (prefixes : List ℕ) → List Operation → Outcome → Call
+abbrev call : (width : ℕ) → (prefixes : List ℕ) → List Operation → (Outcome Optimized) → Call
 call width prefixes os answer = call_with (32 * length os) (suc (length os)) width prefixes os answer
 
-abbrev gives : (map counts : List ℕ) → List Operation → Outcome
-gives map counts os = optimized (record { operations = os; map = map; counts = counts })
+abbrev gives : (map counts : List ℕ) → List Operation → (Outcome Optimized)
+gives map counts os = completed (record { operations = os; map = map; counts = counts })
 
-unfoldable pub answer_of : Call → Outcome
+unfoldable pub answer_of : Call → (Outcome Optimized)
 unfolding outcome_of
 answer_of c = outcome_of c.width (words_of c.operations) c.prefixes c.optimized_len c.map_len
 
@@ -227,31 +228,31 @@ judging =
     -- 27: a prefix beyond the list
     ∷ call 1 (1 ∷ 2 ∷ [])
     (rotation half 1 0 0 plain ∷ [])
-    (refused 27 0)
+    (refused_at 27 0)
     -- before 28
     ∷ call 1 (2 ∷ [])
     (rotation half 1 0 1 plain ∷ [])
-    (refused 27 0)
+    (refused_at 27 0)
     -- 28: the first rotation that is not Hermitian, by its place in the whole list
     ∷ call 1 (2 ∷ [])
     (rotation half 1 0 0 plain ∷ measurement 1 1 1 plain (some 1) none none ∷ rotation half 0 1 0 plain ∷ rotation half 1 1 0 plain
     ∷ rotation half 1 0 3 plain ∷ [])
-    (refused 28 3)
+    (refused_at 28 3)
     -- 26, before the shortcut
     ∷ call 1 []
     (set (measurement 0 1 0 plain none none (some 0)) 3 4 ∷ [])
-    (refused 26 0)
+    (refused_at 26 0)
     -- and before 27 and 28
     ∷ call 1 (9 ∷ [])
     (set (rotation half 1 0 1 (sign 0 (2 ∷ []))) 14 1 ∷ [])
-    (refused 26 0)
+    (refused_at 26 0)
     -- a width of 0, and of 65
     ∷ call 0 []
     []
-    (refused 26 0)
+    (refused_at 26 0)
     ∷ call 65 []
     []
-    (refused 26 0)
+    (refused_at 26 0)
     -- outputs that are just long enough, longer, and too short for the list and for the map
     ∷ call_with 32 2 1 []
     (rotation half 1 0 0 plain ∷ [])
@@ -263,8 +264,8 @@ judging =
     (rotation half 1 0 0 plain ∷ []))
     ∷ call_with 31 2 1 []
     (rotation half 1 0 0 plain ∷ [])
-    (refused 26 0)
+    (refused_at 26 0)
     ∷ call_with 32 1 1 []
     (rotation half 1 0 0 plain ∷ [])
-    (refused 26 0)
+    (refused_at 26 0)
     ∷ []

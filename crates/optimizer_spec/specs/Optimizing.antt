@@ -2,6 +2,7 @@
 use Rattle.std.specs.Prelude.{ℕ, suc, ◌+◌, ◌-◌, ◌^◌, List, [], ◌∷◌, map, Bool, not, ◌&&◌, length, take, drop, Option, Some, None, if◌then◌else◌, nat_eq, nat_lt, ◌==◌}
 use Rattle.std.specs.List.{filter, list_any, flat_map, sum_by, count_by, range_with_len, position_from}
 use Rattle.std.specs.Float.Ieee.{add, mul, eq, of_bits, to_bits}
+use Rattle.refusals.specs.Answer.{Outcome, completed, refused_at}
 use Rattle.pending.specs.Operation.{Operation, operations_of, is_rotation, is_expectation, is_hermitian, commute, y_count}
 use Rattle.pending.specs.Form.{form_fits}
 use Rattle.optimizer_spec.specs.Passes.{Placed, placed, Pair, Segment, segment_of, carry, meeting, can_fuse, cancels, fused, passed, reach}
@@ -51,14 +52,10 @@ pub record Optimized : Type 0 where
   pub map : List ℕ
   pub counts : List ℕ
 
-pub data Outcome : Type 0 where
-  optimized : Optimized → Outcome
-  refused : (number index : ℕ) → Outcome
-
 -- "28": where the first operation stands that is a non-Hermitian rotation
-abbrev pub refuse_at : Option ℕ → (number : ℕ) → Outcome → Outcome
+abbrev pub refuse_at : Option ℕ → (number : ℕ) → (Outcome Optimized) → (Outcome Optimized)
 refuse_at None number rest = rest
-refuse_at (Some index) number rest = refused number index
+refuse_at (Some index) number rest = refused_at number index
 
 -- "a prefix beyond the list"
 abbrev pub is_beyond : List Operation → (prefix : ℕ) → Bool
@@ -97,11 +94,11 @@ in_segments os prefixes =
 
 -- what a call gives: "26 first of all", index 0; "After the shortcut for expectation values 27 is a prefix beyond the list, and then 28 a non-Hermitian rotation
 -- anywhere in it, ...; 28 returns the first such operation's index, 26 and 27 return 0". To unfold this name is to unfold all that it computes by.
-unfoldable pub outcome_of : (width : ℕ) (words prefixes : List ℕ) (optimized_len map_len : ℕ) → Outcome
+unfoldable pub outcome_of : (width : ℕ) (words prefixes : List ℕ) (optimized_len map_len : ℕ) → (Outcome Optimized)
 unfolding operations_of form_fits of_bits in_segments ends_of segments boundary segment_of carry meeting can_fuse cancels fused passed reach commute y_count add mul eq to_bits
 outcome_of width words prefixes optimized_len map_len =
     let os = operations_of words in
-    if not (form_fits width words prefixes optimized_len map_len) then refused 26 0
-    else if list_any is_expectation os then optimized (as_it_is os)
-    else if list_any (is_beyond os) prefixes then refused 27 0
-    else refuse_at (position_from is_odd_rotation 0 os) 28 (optimized (in_segments os prefixes))
+    if not (form_fits width words prefixes optimized_len map_len) then refused_at 26 0
+    else if list_any is_expectation os then completed (as_it_is os)
+    else if list_any (is_beyond os) prefixes then refused_at 27 0
+    else refuse_at (position_from is_odd_rotation 0 os) 28 (completed (in_segments os prefixes))

@@ -2,7 +2,6 @@
 use Rattle.std.specs.Prelude.{ℕ, Result, Ok, Err}
 use Rattle.refusals.specs.Numbers.{number_of}
 use Rattle.refusals.specs.declared.Reason.{Reason}
-use Rattle.refusals.specs.declared.Refusal.{Refusal}
 
 -- an answer: the value, or the number of a refusal of 01
 pub data Answer (A : Type 0) : Type 0 where
@@ -23,13 +22,3 @@ answer_of (Err reason) = refused (number_of reason)
 abbrev pub number_or_0 : {A : Type 0} → Result A Reason → ℕ
 number_or_0 (Ok value) = 0
 number_or_0 (Err reason) = number_of reason
-
--- the number, the index and the value of a call's answer, or what a function makes of its value
-abbrev pub outcome_with : {A B : Type 0} → (A → B) → Result A Refusal → Outcome B
-outcome_with f (Ok value) = completed (f value)
-outcome_with f (Err refusal) = refused_at (number_of refusal.reason) refusal.index
-
--- a value's outcome through a function
-abbrev pub outcome_map : {A B : Type 0} → (A → B) → Outcome A → Outcome B
-outcome_map f (completed value) = completed (f value)
-outcome_map f (refused_at number index) = refused_at number index

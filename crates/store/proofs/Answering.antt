@@ -7,7 +7,7 @@ use mathlib.Core.List.{List, []}
 use Prim.Native.Nat.{ℕ, ◌+◌, ◌*◌, ◌/◌, ◌≤◌, ◌<◌}
 use native.Mathlib.Omega.{arith}
 use lib.ListN.{length}
-use Rattle.refusals.specs.Answer.{completed, refused_at}
+use Rattle.refusals.specs.Answer.{completed, refused_at, Outcome}
 use borrow.Author.Tests.{lt-ltb, le-ltb}
 use Rattle.words.specs.Lists.{padded}
 use Rattle.words.proofs.Padded.{front_of_padded}
@@ -119,7 +119,7 @@ module _ (h : Head) (ws : List ℕ) (before between : Buffers) (r : ActiveCompon
       let long = file_length in
       let plan : store_of h ws (lengths_of before) (length file) ≡ completed p =
       ap (fitting (length file)) it.1 ∙ ap (λ (t : Bool). refuse_all t 23 (completed p)) (le-ltb (length file) (length (file_of p)) (omega arith)) in record {
-        answer = ap Storing.written (sym long) ∙ sym (ap outcome_in plan);
+        answer = ap completed (sym long) ∙ sym (ap outcome_in plan);
         held = subst (λ (x : Result). Held x before between) (sym plan) held;
         bytes = written ∙ ap (λ (k : Kept). padded (length file) (bytes_of k)) front_is ∙ sym (ap (λ (x : Result). padded (length file) (file_in x)) plan);
       }

@@ -7,14 +7,14 @@ use Prim.Native.Nat.{ℕ, ◌^◌, ◌<◌}
 use native.Mathlib.Omega.{arith}
 use lib.Dec.{ltb}
 use lib.ListN.{length, take}
-use Rattle.refusals.specs.Answer.{completed, refused_at}
+use Rattle.refusals.specs.Answer.{completed, refused_at, Outcome, given}
 use Rattle.words.specs.Lists.{padded}
 use Rattle.words.proofs.Padded.{front_of_padded}
 use Rattle.records.specs.declared.Head.{Head}
 use Rattle.plan_spec.specs.Plan.{Plan, Result, refuse_all, plan_of}
 use Rattle.plan_buffers.specs.SevenBuffers.{Buffers, lengths_of}
 use Rattle.stored_plan.specs.Stored.{kept_of, file_of}
-use Rattle.stored_plan.specs.Reading.{Read, restored, trailer_word, read_file}
+use Rattle.stored_plan.specs.Reading.{Read, trailer_word, read_file}
 use Rattle.plan_buffers.specs.SixOutputs.{Outputs, word_counts_of}
 use Rattle.stored_plan.specs.Loading.{Loads, Restored, outcome_in}
 use Rattle.refusals.specs.declared.Reason.{Reason}
@@ -25,7 +25,7 @@ use Rattle.store.specs.Storing.{fitting, file_in, Stores}
 use Rattle.store.specs.Restoring.{GivesBack, Written}
 
 -- an answer with a length is that of an accepted plan
-stored_plan : (size : ℕ) (result : Result) (n : ℕ) → Storing.written n ≡ Storing.outcome_in (fitting size result)
+stored_plan : (size : ℕ) (result : Result) (n : ℕ) → completed n ≡ Storing.outcome_in (fitting size result)
     → (p : Plan) × (result ≡ completed p) × (fitting size result ≡ completed p) × (n ≡ length (file_of p))
 stored_plan size (refused_at number index) n e = let z : ◌≡◌ {A = ℕ} 0 1 = cc in absurd (omega arith)
 stored_plan size (completed p) n e = go (ltb size (length (file_of p))) refl
@@ -33,15 +33,15 @@ stored_plan size (completed p) n e = go (ltb size (length (file_of p))) refl
     go : (t : Bool) → ltb size (length (file_of p)) ≡ t
         → (q : Plan) × (completed p ≡ completed q) × (fitting size (completed p) ≡ completed q) × (n ≡ length (file_of q))
     go true f =
-        let r : Storing.written n ≡ Storing.turned_away 23 0 = e ∙ ap (λ (t : Bool). Storing.outcome_in (refuse_all t 23 (completed p))) f in
+        let r : completed n ≡ refused_at 23 0 = e ∙ ap (λ (t : Bool). Storing.outcome_in (refuse_all t 23 (completed p))) f in
         let z : ◌≡◌ {A = ℕ} 0 1 = cc in absurd (omega arith)
     go false f =
         let fits : fitting size (completed p) ≡ completed p = ap (λ (t : Bool). refuse_all t 23 (completed p)) f in
-        let r : Storing.written n ≡ Storing.written (length (file_of p)) = e ∙ ap Storing.outcome_in fits in
+        let r : completed n ≡ completed (length (file_of p)) = e ∙ ap Storing.outcome_in fits in
         let same : n ≡ length (file_of p) = cc in (p, refl, fits, same)
 
 -- what reading gives, given back
-gives_back : (p : Plan) (file : List ℕ) (before after : Outputs) (r : Answered StoredPlan Reason) → read_file file (word_counts_of before) ≡ restored (kept_of p) → Loads file before after r
+gives_back : (p : Plan) (file : List ℕ) (before after : Outputs) (r : Answered StoredPlan Reason) → read_file file (word_counts_of before) ≡ given (kept_of p) → Loads file before after r
     → GivesBack p before after r
 gives_back p file before after r e a =
     let h = subst (λ (x : Read). Restored x before after) e a.held in record {

@@ -1,12 +1,13 @@
 -- What is said of a call of `load` with the file that a call of `store` has left: 02, CR 2,
 -- "reading a written plan restores these fields and every row".
 use Rattle.std.specs.Prelude.{ℕ, ◌≡◌, List, length, take, Result as Answered}
+use Rattle.refusals.specs.Answer.{given}
 use Rattle.words.specs.Lists.{padded}
 use Rattle.plan_spec.specs.Plan.{Plan}
 use Rattle.stored_plan.specs.Stored.{kept_of, scalars_of, file_of}
 use Rattle.stored_plan.specs.Reading.{trailer_word, counts_of}
 use Rattle.plan_buffers.specs.SixOutputs.{Outputs, word_counts_of}
-use Rattle.stored_plan.specs.Loading.{Loads, given, outcome_of}
+use Rattle.stored_plan.specs.Loading.{Loads, loaded, outcome_of}
 use Rattle.stored_plan.specs.Laws.{LongEnough}
 use Rattle.refusals.specs.declared.Reason.{Reason}
 use Rattle.stored_plan.specs.declared.StoredPlan.{StoredPlan}
@@ -15,7 +16,7 @@ use Rattle.stored_plan.specs.declared.StoredPlan.{StoredPlan}
 -- plan's, with zeros behind
 pub record GivesBack (p : Plan) (before after : Outputs)
     (r : Answered StoredPlan Reason) : Type 0 where
-  pub answer : outcome_of r ≡ given (scalars_of p) (counts_of (kept_of p))
+  pub answer : outcome_of r ≡ given (loaded (scalars_of p) (counts_of (kept_of p)))
   pub steps : after.steps ≡ padded (length before.steps) p.steps
   pub merges : after.merges ≡ padded (length before.merges) p.merges
   pub sizes : after.sizes ≡ padded (length before.sizes) p.sizes

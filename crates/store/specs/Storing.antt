@@ -1,7 +1,7 @@
 -- What the contract of `store` says: its answer, the seven buffers and every byte of the file.
 -- Written from 02, CR 2.
 use Rattle.std.specs.Prelude.{ℕ, ◌≡◌, ◌≤◌, List, [], length, take, Result as Answered, Ok, Err, nat_lt}
-use Rattle.refusals.specs.Answer.{completed, refused_at}
+use Rattle.refusals.specs.Answer.{completed, refused_at, Outcome}
 use Rattle.words.specs.Lists.{padded}
 use Rattle.refusals.specs.Numbers.{number_of}
 use Rattle.refusals.specs.declared.Refusal.{Refusal}
@@ -24,20 +24,16 @@ fitting n (refused_at number index) = refused_at number index
 abbrev pub store_of : Head → List ℕ → Lengths → ℕ → Result
 store_of h ws l n = fitting n (plan_of h ws l)
 
--- "The writer returns the file's length", or the refusal's number and record index
-pub data Outcome : Type 0 where
-  written : (length : ℕ) → Outcome
-  turned_away : (number index : ℕ) → Outcome
-
--- of the code's answer
-abbrev pub outcome_of : Answered ℕ Refusal → Outcome
-outcome_of (Ok n) = written n
-outcome_of (Err refusal) = turned_away (number_of refusal.reason) refusal.index
+-- "The writer returns the file's length", or the refusal's number and record index: of the code's
+-- answer
+abbrev pub outcome_of : Answered ℕ Refusal → Outcome ℕ
+outcome_of (Ok n) = completed n
+outcome_of (Err refusal) = refused_at (number_of refusal.reason) refusal.index
 
 -- of the definition's result
-abbrev pub outcome_in : Result → Outcome
-outcome_in (completed p) = written (length (file_of p))
-outcome_in (refused_at number index) = turned_away number index
+abbrev pub outcome_in : Result → Outcome ℕ
+outcome_in (completed p) = completed (length (file_of p))
+outcome_in (refused_at number index) = refused_at number index
 
 -- the file of a plan; a refusal has none
 abbrev pub file_in : Result → List ℕ

@@ -9,13 +9,14 @@ use lib.Dec.{eqb}
 use lib.ListN.{length, get_or}
 use Rattle.std.proofs.Common.{rules}
 use Rattle.std.proofs.lemmas.Grind.{common_steps}
+use Rattle.refusals.specs.Answer.{given, refused}
 use Rattle.words.specs.Lists.{numbers_from}
 use Rattle.words.specs.File.{word_at, words_at}
 use Rattle.words.proofs.Bytes.{length_words}
 use Rattle.plan_buffers.specs.declared.WordCounts.{WordCounts}
 use Rattle.plan_buffers.specs.SixOutputs.{outputs_short}
 use Rattle.stored_plan.specs.Stored.{Kept}
-use Rattle.stored_plan.specs.Reading.{Read, restored, refused, trailer_at, trailer_word, file_refused, kept_in, touch, counts_of, odd_counts, counts_refused, read_file}
+use Rattle.stored_plan.specs.Reading.{Read, trailer_at, trailer_word, file_refused, kept_in, touch, counts_of, odd_counts, counts_refused, read_file}
 use Rattle.stored_plan.specs.Loading.{number_of, trailer_in, counts_in}
 
 -- a refusal where the test holds, and else the rest
@@ -77,9 +78,9 @@ record Passed (a b c : Bool) (k : Kept) : Type 0 where
   is_file : a ≡ false
   touching : b ≡ true
   counts : c ≡ false
-  read : refuse a 21 (refuse (not b) 22 (refuse c 23 (restored k))) ≡ restored k
+  read : refuse a 21 (refuse (not b) 22 (refuse c 23 (given k))) ≡ given k
 
-passed : (a b c : Bool) (k : Kept) → number_of (refuse a 21 (refuse (not b) 22 (refuse c 23 (restored k)))) ≡ 0 → Passed a b c k
+passed : (a b c : Bool) (k : Kept) → number_of (refuse a 21 (refuse (not b) 22 (refuse c 23 (given k)))) ≡ 0 → Passed a b c k
 passed true b c k e = absurd (omega arith)
 passed false false c k e = absurd (omega arith)
 passed false true true k e = absurd (omega arith)
@@ -124,20 +125,20 @@ module _ (file : List ℕ) (lent : WordCounts) where
   pub number_counts : {trailer : List ℕ} {counts : WordCounts} → trailer ≡ trailer_in file → 0 ≡ cond {A = ℕ} (file_refused file) 21 0
       → touch 0 (trailer_at file) (map (λ i. get_or trailer i 0) (numbers_from 0 14)) ≡ true → counts ≡ counts_in trailer
       → (t : Bool) → counts_bad trailer counts (word_at file (trailer_at file - 6)) ≡ t
-      → number_of (refuse t 23 (restored (kept_in file))) ≡ number_of (read_file file lent)
+      → number_of (refuse t 23 (given (kept_in file))) ≡ number_of (read_file file lent)
   number_counts same e f n t g =
       let whole = not_21 (file_refused file) e in
       let touching : places ≡ true = ap (λ (l : List ℕ). touch 0 (trailer_at file) (map (λ i. get_or l i 0) (numbers_from 0 14))) (sym same) ∙ f in
       let tests : bad ≡ t =
       ap₂ (λ (l : List ℕ) (c : WordCounts). counts_bad l c (word_at file (trailer_at file - 6))) (sym same) (ap counts_in (sym same) ∙ sym n) ∙ g in
       sym (
-      ap₂ (λ (a b : Bool). number_of (refuse a 21 (refuse (not b) 22 (refuse (counts_refused lent (kept_in file)) 23 (restored (kept_in file)))))) whole touching
-      ∙ ap (λ (b : Bool). number_of (refuse b 23 (restored (kept_in file)))) (counts_tested touching ∙ tests))
+      ap₂ (λ (a b : Bool). number_of (refuse a 21 (refuse (not b) 22 (refuse (counts_refused lent (kept_in file)) 23 (given (kept_in file)))))) whole touching
+      ∙ ap (λ (b : Bool). number_of (refuse b 23 (given (kept_in file)))) (counts_tested touching ∙ tests))
 
   -- ---- no refusal
 
   pub record Accepted : Type 0 where
-    pub read : read_file file lent ≡ restored (kept_in file)
+    pub read : read_file file lent ≡ given (kept_in file)
     pub is_whole : Whole file
     pub touching : places ≡ true
     pub eight : trailer_word file 13 ≡ 8
@@ -159,5 +160,5 @@ module _ (file : List ℕ) (lent : WordCounts) where
   refused_is number e n = by (read_file file lent) e
     where
       by : (r : Read) → number ≡ number_of r → r ≡ refused number
-      by (restored k) e = absurd (n e)
+      by (given k) e = absurd (n e)
       by (refused m) e = ap refused (sym e)

@@ -3,12 +3,12 @@ use mathlib.Core.Path.{◌≡◌, refl}
 use mathlib.Core.List.{List, [], ◌∷◌, ◌++◌, map}
 use Prim.Native.Nat.{ℕ, ◌+◌, ◌-◌, ◌*◌, ◌^◌}
 use lib.ListN.{take, set}
-use Rattle.refusals.specs.Answer.{completed, refused_at}
+use Rattle.refusals.specs.Answer.{completed, refused_at, given, refused}
 use Rattle.words.specs.File.{word_bytes}
 use Rattle.plan_spec.specs.Plan.{Result, plan_of}
 use Rattle.plan_buffers.specs.declared.WordCounts.{WordCounts}
 use Rattle.stored_plan.specs.Stored.{file_of}
-use Rattle.stored_plan.specs.Reading.{Read, restored, refused, read_file}
+use Rattle.stored_plan.specs.Reading.{Read, read_file}
 use Rattle.stored_plan.specs.Loading.{number_of}
 
 -- ---- written
@@ -274,7 +274,7 @@ cut_short = refl
 
 -- every scalar word comes back as it stands
 abbrev pub scalars_of : Read → List ℕ
-scalars_of (restored k) = k.scalars
+scalars_of (given k) = k.scalars
 scalars_of (refused number) = []
 
 pub unjudged : scalars_of (read_file (file_in (case (7 ∷ 1 ∷ 0 ∷ (0x7ff8_0000_0000_0001) ∷ (2 ^ 64 - 1) ∷ 2 ∷ 3 ∷ 4 ∷ []) alone 192 1 (room 0) 0)) (room 0))

@@ -9,7 +9,7 @@ use lib.Dec.{T, eqb, ltb}
 use lib.ListN.{length, get_or, length-append}
 use lib.Ieee.{Float, binary64, fits, of_bits}
 use lib.Ieee.Bits.{of_bits-to_bits}
-use Rattle.refusals.specs.Answer.{completed}
+use Rattle.refusals.specs.Answer.{completed, given}
 use borrow.Author.Tests.{eq-eqb, le-ltb}
 use Rattle.words.specs.Words.{flag_word, bits_word, Words}
 use Rattle.words.proofs.Words.{words_append, flag_word_lem}
@@ -21,7 +21,7 @@ use Rattle.plan_spec.proofs.Words.{plan_words, works_fit, plan_counts}
 use Rattle.plan_buffers.specs.declared.WordCounts.{WordCounts}
 use Rattle.plan_buffers.specs.SixOutputs.{outputs_short}
 use Rattle.stored_plan.specs.Stored.{Kept, kept_of, scalars_of, sections_of, trailer_of, words_of, file_of}
-use Rattle.stored_plan.specs.Reading.{restored, trailer_word, counts_of, odd_counts, counts_refused, read_file}
+use Rattle.stored_plan.specs.Reading.{trailer_word, counts_of, odd_counts, counts_refused, read_file}
 use Rattle.stored_plan.specs.Laws.{LongEnough, SamePlan}
 use Rattle.stored_plan.specs.Loading.{number_of}
 use Rattle.stored_plan.proofs.Accepting.{accepted}
@@ -99,7 +99,7 @@ module _ (h : Head) (ws : List ℕ) (l : Lengths) (p : Plan) (small : h.initial_
       ap₂ (λ (a b : Bool). a || b) odd short
 
   -- every written file passes all checks, and "reading a written plan restores these fields and every row"
-  pub plan_restored : (lent : WordCounts) → LongEnough p lent → read_file (file_of p) lent ≡ restored (kept_of p)
+  pub plan_restored : (lent : WordCounts) → LongEnough p lent → read_file (file_of p) lent ≡ given (kept_of p)
   plan_restored lent long = read_back (kept_of p) (words_append (concat (sections_of (kept_of p))) (trailer_of (sections_of (kept_of p))) section_words trailer_words) lent (whole_counts lent long)
 
   -- the length in the trailer is the file's

@@ -11,6 +11,7 @@ use lib.Dec.{eqb}
 use lib.ListN.{length, get_or, take, drop, length-append}
 use lib.Seq.{take_at, drop_at, take_all, drop-drop, get_or-append-add}
 use borrow.Author.Tests.{eqb-true, eq-eqb, le-ltb}
+use Rattle.refusals.specs.Answer.{given}
 use Rattle.words.specs.Lists.{numbers_from}
 use Rattle.words.specs.Words.{Words, Bytes}
 use Rattle.words.specs.File.{word_bytes, word_at, words_at}
@@ -19,7 +20,7 @@ use Rattle.words.proofs.Back.{word_back, words_back, file_back}
 use Rattle.plan_spec.specs.Lists.{concat}
 use Rattle.plan_buffers.specs.declared.WordCounts.{WordCounts}
 use Rattle.stored_plan.specs.Stored.{Kept, sections_of, pointers_from, trailer_of, words_of, bytes_of}
-use Rattle.stored_plan.specs.Reading.{restored, trailer_at, trailer_word, file_refused, kept_in, touch, places_refused, counts_refused, read_file}
+use Rattle.stored_plan.specs.Reading.{trailer_at, trailer_word, file_refused, kept_in, touch, places_refused, counts_refused, read_file}
 use Rattle.stored_plan.specs.Loading.{number_of}
 use Rattle.stored_plan.proofs.Touching.{touch_next}
 use Rattle.stored_plan.proofs.Accepting.{refuse, trailer_fits, accepted}
@@ -118,11 +119,11 @@ module _ (k : Kept) (all : Words (words_of k)) where
       ∙ ap kept_by (sections_back (words_of k) (trailer_of ss) 0 ss all refl (let l = length-append (concat ss) (trailer_of ss) in omega arith))
 
   -- every written file passes all checks, and reading it restores what was kept, wherever the counts are a plan's and the outputs are long enough
-  pub read_back : (lent : WordCounts) → counts_refused lent k ≡ false → read_file file lent ≡ restored k
+  pub read_back : (lent : WordCounts) → counts_refused lent k ≡ false → read_file file lent ≡ given k
   read_back lent e =
-      ap₂ (λ (a b : Bool). refuse a 21 (refuse b 22 (refuse (counts_refused lent (kept_in file)) 23 (restored (kept_in file))))) written_whole written_placed
-      ∙ ap (λ (x : Kept). refuse (counts_refused lent x) 23 (restored x)) written_kept
-      ∙ ap (λ (t : Bool). refuse t 23 (restored k)) e
+      ap₂ (λ (a b : Bool). refuse a 21 (refuse b 22 (refuse (counts_refused lent (kept_in file)) 23 (given (kept_in file))))) written_whole written_placed
+      ∙ ap (λ (x : Kept). refuse (counts_refused lent x) 23 (given x)) written_kept
+      ∙ ap (λ (t : Bool). refuse t 23 (given k)) e
 
 -- ---- what is read is what was written
 
@@ -162,11 +163,11 @@ laid file at end (start ∷ count ∷ rest) e =
           ∙ ap₂ (λ (s : ℕ) (l : List ℕ). s ∷ count ∷ l) (sym here) later.pointers;
     }
 
-pub restored_same : (k j : Kept) → restored k ≡ restored j → k ≡ j
+pub restored_same : (k j : Kept) → given k ≡ given j → k ≡ j
 restored_same k j e = cc
 
 -- a file that is read is the file of what it gives back, so that no plan has two files
-pub file_is : (file : List ℕ) (lent : WordCounts) (k : Kept) → Bytes file → read_file file lent ≡ restored k → bytes_of k ≡ file
+pub file_is : (file : List ℕ) (lent : WordCounts) (k : Kept) → Bytes file → read_file file lent ≡ given k → bytes_of k ≡ file
 file_is file lent k bytes e =
     let a = accepted file lent (ap number_of e) in
     let same = restored_same (kept_in file) k (sym a.read ∙ e) in

@@ -1,20 +1,23 @@
 -- What the contract of `load` says: its answer, and the six outputs, for what reading the file gives.
 use Rattle.std.specs.Prelude.{ℕ, ◌+◌, ◌*◌, ◌≤◌, ◌≡◌, List, [], ◌∷◌, map, length, get_or, Result, Ok, Err}
+use Rattle.refusals.specs.Answer.{Answer, given, refused}
 use Rattle.words.specs.Lists.{numbers_from, padded}
 use Rattle.plan_buffers.specs.declared.WordCounts.{WordCounts}
 use Rattle.stored_plan.specs.Stored.{trailer_words, Kept}
 use Rattle.plan_buffers.specs.SixOutputs.{Outputs, word_counts_of}
-use Rattle.plan_buffers.specs.SevenBuffers.{lengths_of}
-use Rattle.stored_plan.specs.Reading.{Read, restored, refused, trailer_word, counts_of, read_file}
+use Rattle.stored_plan.specs.Reading.{Read, trailer_word, counts_of, read_file}
 use Rattle.stored_plan.specs.declared.ScalarWords.{ScalarWords}
 use Rattle.refusals.specs.Numbers as Reasons
 use Rattle.refusals.specs.declared.Reason.{Reason}
 use Rattle.stored_plan.specs.declared.StoredPlan.{StoredPlan}
 
--- the eight words and the counts, or the refusal's number
-pub data Outcome : Type 0 where
-  given : (scalars : List ℕ) (counts : WordCounts) → Outcome
-  turned_away : (number : ℕ) → Outcome
+-- the eight words and the counts
+pub record Loaded : Type 0 where
+  pub scalars : List ℕ
+  pub counts : WordCounts
+
+abbrev pub loaded : (scalars : List ℕ) (counts : WordCounts) → Loaded
+loaded scalars counts = record { scalars = scalars; counts = counts }
 
 abbrev pub scalar_list : ScalarWords → List ℕ
 scalar_list s =
@@ -22,18 +25,18 @@ scalar_list s =
     ∷ s.dense_peak_dimension ∷ s.component_peak_live_dimension ∷ s.component_allocated_dimension ∷ []
 
 -- of the code's answer
-abbrev pub outcome_of : Result StoredPlan Reason → Outcome
-outcome_of (Ok plan) = given (scalar_list plan.scalars) plan.counts
-outcome_of (Err reason) = turned_away (Reasons.number_of reason)
+abbrev pub outcome_of : Result StoredPlan Reason → Answer Loaded
+outcome_of (Ok plan) = given (loaded (scalar_list plan.scalars) plan.counts)
+outcome_of (Err reason) = refused (Reasons.number_of reason)
 
 -- of the definition's
-abbrev pub outcome_in : Read → Outcome
-outcome_in (restored k) = given k.scalars (counts_of k)
-outcome_in (refused number) = turned_away number
+abbrev pub outcome_in : Read → Answer Loaded
+outcome_in (given k) = given (loaded k.scalars (counts_of k))
+outcome_in (refused number) = refused number
 
 -- what a lent output of n words holds afterwards: its section and zeros behind it, and zeros alone after a refusal
 abbrev pub restored_in : ℕ → (Kept → List ℕ) → Read → List ℕ
-restored_in n section (restored k) = padded n (section k)
+restored_in n section (given k) = padded n (section k)
 restored_in n section (refused number) = padded n []
 
 -- the six outputs hold what was read, whatever they held before
@@ -54,7 +57,7 @@ pub record Loads (file : List ℕ) (before after : Outputs) (r : Result StoredPl
 
 -- the refusal's number, 0 where there is none
 abbrev pub number_of : Read → ℕ
-number_of (restored k) = 0
+number_of (given k) = 0
 number_of (refused number) = number
 
 -- the sixteen words of a file's trailer

@@ -1,6 +1,7 @@
 -- What reading any list of bytes gives: refusals 21, 22 and 23 in this order, and else the sections. Written from 02, CR 2: "Reading looks at the trailer and
 -- component_count only and hands every other word back unjudged".
 use Rattle.std.specs.Prelude.{if◌then◌else◌, ℕ, ◌+◌, ◌-◌, ◌*◌, ◌/◌, ◌%◌, List, [], ◌∷◌, map, Bool, true, false, not, ◌&&◌, ◌||◌, length, get_or, nat_lt, ◌==◌}
+use Rattle.refusals.specs.Answer.{Answer, given, refused}
 use Rattle.words.specs.Lists.{numbers_from}
 use Rattle.words.specs.File.{word_at, words_at}
 use Rattle.plan_spec.specs.Rows.{measurement_words, rotation_words, step_words}
@@ -8,9 +9,9 @@ use Rattle.plan_buffers.specs.declared.WordCounts.{WordCounts}
 use Rattle.plan_buffers.specs.SixOutputs.{outputs_short}
 use Rattle.stored_plan.specs.Stored.{file_version, trailer_words, Kept}
 
-pub data Read : Type 0 where
-  restored : Kept → Read
-  refused : ℕ → Read
+-- what reading gives: what the file keeps, or a refusal's number
+abbrev pub Read : Type 0
+Read = Answer Kept
 
 -- the sixteen words alone: what a file has at least
 abbrev pub least_bytes : ℕ
@@ -108,4 +109,4 @@ read_file file lent =
     if file_refused file then refused 21
     else if places_refused file then refused 22
     else if counts_refused lent (kept_in file) then refused 23
-    else restored (kept_in file)
+    else given (kept_in file)

@@ -6,11 +6,12 @@ use native.Mathlib.Omega.{arith}
 use Rattle.std.proofs.Common.{rules, get_or}
 use Rattle.std.specs.Prelude.{ℕ}
 use Rattle.words.specs.File.{words_at}
+use Rattle.refusals.specs.Answer.{given}
 use Rattle.refusals.proofs.Laws.{positive}
 use Rattle.plan_buffers.specs.declared.WordCounts.{WordCounts}
 use Rattle.plan_buffers.specs.SixOutputs.{Outputs, word_counts_of, outputs_of}
 use Rattle.stored_plan.specs.Reading.{Read, read_file}
-use Rattle.stored_plan.specs.Loading.{number_of, given, outcome_in, Restored, trailer_in, counts_in}
+use Rattle.stored_plan.specs.Loading.{number_of, loaded, outcome_in, Restored, trailer_in, counts_in}
 use Rattle.stored_plan.proofs.Accepting.{counts_are, accepted, refused_is, Room}
 use Rattle.stored_plan.proofs.load.Goals as goal
 
@@ -58,7 +59,7 @@ returns-in-Ok-clause-loads c =
     let ok = accepted file (word_counts_of before) (sym told) in
     let trailer = c.in-Ok.ensures.trailer in record {
       answer =
-          ap₂ given
+          ap₂ (λ (scalars : List ℕ) (counts : WordCounts). given (loaded scalars counts))
           (c.scalars_at.ensures ∙ ap₂ (λ (l : List ℕ) (n : ℕ). words_at file (get_or l 12 0) n) trailer (sym ok.eight))
           (c.counts_in.ensures ∙ ap counts_in trailer ∙ sym (counts_are file))
           ∙ ap outcome_in (sym ok.read);

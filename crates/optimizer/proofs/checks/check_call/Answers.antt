@@ -3,16 +3,16 @@ use Rattle.std.proofs.Common.{ℕ, true, false, refl, ap, sym}
 use Rattle.std.specs.Prelude.{ltb, Some, None}
 use Rattle.std.specs.List.{list_any}
 use mathlib.Core.Path.{◌∙◌}
+use Rattle.refusals.specs.Answer.{refused_at}
 use Rattle.refusals.specs.Numbers as Reasons
 use Rattle.pending.proofs.Chunks.{count}
-use Rattle.optimizer_spec.specs.Optimizing.{refused}
 use Rattle.optimizer.specs.declared.checks.Verdict.TheVariants.{AsItIs, InSegments}
 use Rattle.optimizer.proofs.Judging.{by_answers, sound}
 use Rattle.optimizer.proofs.checks.check_call.Goals as goal
 
 pub returns-then-not-form_fits-clause-answer : goal.returns-then-not-form_fits-clause-answer
 returns-then-not-form_fits-clause-answer c =
-    ap (λ r. refused (Reasons.number_of r.reason) r.index) c.at.ensures
+    ap (λ r. refused_at (Reasons.number_of r.reason) r.index) c.at.ensures
     ∙ by_answers c.args.width c.args.operations.now c.args.prefixes.now c.args.optimized_len c.args.map_len false _ _ _
     (sym c.form_fits.ensures ∙ c.if-not-form_fits.true) refl refl refl
 
@@ -28,14 +28,14 @@ returns-then-has_expectation-clause-sound c =
 
 pub returns-then-has_prefix_beyond-clause-answer : goal.returns-then-has_prefix_beyond-clause-answer
 returns-then-has_prefix_beyond-clause-answer c =
-    ap (λ r. refused (Reasons.number_of r.reason) r.index) c.at-then-has_prefix_beyond.ensures
+    ap (λ r. refused_at (Reasons.number_of r.reason) r.index) c.at-then-has_prefix_beyond.ensures
     ∙ by_answers c.args.width c.args.operations.now c.args.prefixes.now c.args.optimized_len c.args.map_len true false true _
     (sym c.form_fits.ensures ∙ c.if-not-form_fits.false) (sym c.has_expectation.ensures ∙ c.if-has_expectation.false)
     (ap (λ (n : ℕ). list_any (ltb n) c.args.prefixes.now) (count c.args.operations.now) ∙ sym c.has_prefix_beyond.ensures ∙ c.if-has_prefix_beyond.true) refl
 
 pub returns-in-Some-clause-answer : goal.returns-in-Some-clause-answer
 returns-in-Some-clause-answer c =
-    ap (λ r. refused (Reasons.number_of r.reason) r.index) c.at-in-Some.ensures
+    ap (λ r. refused_at (Reasons.number_of r.reason) r.index) c.at-in-Some.ensures
     ∙ by_answers c.args.width c.args.operations.now c.args.prefixes.now c.args.optimized_len c.args.map_len true false false (Some c.in-Some.i)
     (sym c.form_fits.ensures ∙ c.if-not-form_fits.false) (sym c.has_expectation.ensures ∙ c.if-has_expectation.false)
     (ap (λ (n : ℕ). list_any (ltb n) c.args.prefixes.now) (count c.args.operations.now) ∙ sym c.has_prefix_beyond.ensures ∙ c.if-has_prefix_beyond.false) (sym c.in-Some.ensures)
