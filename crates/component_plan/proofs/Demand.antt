@@ -31,7 +31,8 @@ use Rattle.plan_buffers.specs.declared.WordCounts.{WordCounts}
 use Rattle.plan_buffers.specs.SevenBuffers.{Buffers, lengths_of, padded_buffers, result_words, Held}
 use Rattle.answer.specs.declared.ActiveComponentPlan.{ActiveComponentPlan}
 use Rattle.refusals.specs.declared.Refusal.{Refusal}
-use Rattle.answer.specs.Outcome.{used_in, outcome_of, outcome_in}
+use Rattle.answer.specs.Outcome.{Fields, used_in, outcome_of, outcome_in}
+use Rattle.answer.proofs.Told.{fields_same}
 use Rattle.component_plan.specs.Answer.{Answers}
 use Rattle.component_plan.specs.Demand.{plan_in}
 
@@ -39,17 +40,14 @@ use Rattle.component_plan.specs.Demand.{plan_in}
 pub planned_pads : (result : Result) (before after : Buffers) (r : ActiveComponentPlan) → outcome_of (Ok r) ≡ outcome_in result → Held result before after
     → (p : Plan) × (result ≡ completed p) × Pads p (plan_in r after)
 planned_pads (completed p) before after r e held =
-    let initial : r.initial_components ≡ p.initial_components = cc in
-    let count : r.component_count ≡ p.component_count = cc in
-    let peak : r.component_peak_live_dimension ≡ p.peak = cc in
-    let allocated : r.component_allocated_dimension ≡ p.allocated = cc in (
+    let same = fields_same e in (
       p,
       refl,
       record {
-        initial_components = initial;
-        component_count = count;
-        peak = peak;
-        allocated = allocated;
+        initial_components = ap (λ (f : Fields). f.initial_components) same;
+        component_count = ap (λ (f : Fields). f.component_count) same;
+        peak = ap (λ (f : Fields). f.peak) same;
+        allocated = ap (λ (f : Fields). f.allocated) same;
         steps = (length before.steps, ap (λ (b : Buffers). b.steps) held);
         merges = (length before.merges, ap (λ (b : Buffers). b.merges) held);
         sizes = (length before.sizes, ap (λ (b : Buffers). b.sizes) held);
@@ -73,7 +71,7 @@ call_connected h ws before after r a wide none m within =
 
 -- an answer that is a plan counts the definition's words
 planned_used : (result : Result) (r : ActiveComponentPlan) → outcome_of (Ok r) ≡ outcome_in result → (p : Plan) → result ≡ completed p → used_in p ≡ r.used
-planned_used result r e p same = let given : outcome_of (Ok r) ≡ outcome_in (completed p) = e ∙ ap outcome_in same in cc
+planned_used result r e p same = ap (λ (f : Fields). f.used) (sym (fields_same (e ∙ ap outcome_in same)))
 
 -- 02, CR 3, of the answer and the buffers that a call leaves: each row's part of the merge list, by the numbers of used words
 pub call_sources : (h : Head) (ws : List ℕ) (before after : Buffers) (r : ActiveComponentPlan)
@@ -105,9 +103,8 @@ planned_works : (result : Result) (r : ActiveComponentPlan) → outcome_of (Ok r
     → (p : Plan) × (result ≡ completed p) × (p.whole_works ≡ works_of r.whole_works) × (p.dense_work ≡ r.estimated_dense_work)
     × (p.component_work ≡ r.estimated_component_work)
 planned_works (completed p) r e =
-    let whole : p.whole_works ≡ works_of r.whole_works = cc in
-    let dense : p.dense_work ≡ r.estimated_dense_work = cc in
-    let component : p.component_work ≡ r.estimated_component_work = cc in (p, refl, whole, dense, component)
+    let same = sym (fields_same e) in
+    (p, refl, ap (λ (f : Fields). f.whole_works) same, ap (λ (f : Fields). f.dense_work) same, ap (λ (f : Fields). f.component_work) same)
 planned_works (refused_at number index) r e = let z : ◌≡◌ {A = ℕ} 0 1 = cc in absurd (omega arith)
 
 -- wherever a call gives whole works, its float works are these numbers

@@ -23,7 +23,8 @@ use Rattle.walk.specs.declared.Summary.{Summary}
 use Rattle.walk.specs.Walking.{Walkable, Ended, WalkEnds}
 use Rattle.plan_buffers.specs.declared.WordCounts.{WordCounts}
 use Rattle.answer.specs.declared.ActiveComponentPlan.{ActiveComponentPlan}
-use Rattle.answer.specs.Outcome.{accepted, outcome_of, finished_outcome, used_by, UsedFit}
+use Rattle.answer.specs.Outcome.{Fields, accepted, outcome_of, finished_outcome, used_by, UsedFit}
+use Rattle.answer.proofs.Told.{fields_same}
 use Rattle.component_plan.specs.Answer.{Filled}
 use Rattle.component_plan.specs.Refusing.{lent_number}
 use Rattle.component_plan.proofs.Filled.{front_is, used_fit, used_same, whole_same, size_words, walk_held}
@@ -75,7 +76,7 @@ module _ (h : Head) (dense_peak : ℕ) (ws : List ℕ) (before : Buffers) (lent 
     module _ (all : ℕ) (r : ActiveComponentPlan) (sum : all ≡ allocated_for (take done.count walked.sizes))
         (made : outcome_of (Ok r) ≡ finished_outcome h.initial_k dense_peak done (length ws / 8) all) where
       used_counted : r.used ≡ used_by done (length ws / 8)
-      used_counted = cc
+      used_counted = ap (λ (f : Fields). f.used) (fields_same made)
 
       -- the answer is the definition's plan
       pub filled : (cleared : Buffers) → SameLengths before walked

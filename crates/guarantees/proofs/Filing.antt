@@ -23,7 +23,7 @@ use Rattle.plan_buffers.specs.SixOutputs.{Outputs, word_counts_of}
 use Rattle.stored_plan.specs.Stored.{Kept, file_of}
 use Rattle.stored_plan.specs.Reading.{Read, counts_of, counts_refused, kept_in, file_refused, places_refused, read_file}
 use Rattle.stored_plan.specs.Loading as Loading
-use Rattle.stored_plan.specs.Loading.{loaded, number_of, scalar_list, Restored}
+use Rattle.stored_plan.specs.Loading.{Loaded, loaded, number_of, scalar_list, Restored}
 use Rattle.stored_plan.proofs.RoundTrip.{restored_same}
 use Rattle.stored_plan.proofs.Accepting.{refuse, accepted}
 use Rattle.store.specs.Storing as Storing
@@ -130,6 +130,10 @@ module _ (k : Kept) (eight : length k.scalars ≡ 8) (n : ℕ) (room : 15 ≤ n)
     measurements = count_back 5 (omega arith) j;
   }
 
+-- answers that say the same of a file say the same words and counts
+loaded_same : {a b : Loaded} → given a ≡ given b → a ≡ b
+loaded_same e = cc
+
 module _ (file : List ℕ) (before after : Outputs) where
   -- a file that is read: every call says what it keeps
   pub kept_read : (k : Kept) (o : Option Kept) → read_file file (word_counts_of before) ≡ given k → LeavesKept file before after o
@@ -137,8 +141,9 @@ module _ (file : List ℕ) (before after : Outputs) where
   kept_read k o e (LeavesKept.answer s a) =
       let held = subst (λ (x : Read). Restored x before after) e a.held in
       let same_answer : given (loaded (scalar_list s.scalars) s.counts) ≡ given (loaded k.scalars (counts_of k)) = a.answer ∙ ap Loading.outcome_in e in
-      let scalars : scalar_list s.scalars ≡ k.scalars = cc in
-      let counts : s.counts ≡ counts_of k = cc in
+      let same = loaded_same same_answer in
+      let scalars : scalar_list s.scalars ≡ k.scalars = ap (λ (l : Loaded). l.scalars) same in
+      let counts : s.counts ≡ counts_of k = ap (λ (l : Loaded). l.counts) same in
       (ap Some (ap₂ (λ (x : List ℕ) (y : WordCounts). kept_told x y after) scalars counts ∙ kept_held k before after held), held)
   kept_read k o e (LeavesKept.refusal r a) =
       let same_answer : refused (Reasons.number_of r) ≡ given (loaded k.scalars (counts_of k)) = a.answer ∙ ap Loading.outcome_in e in

@@ -2,7 +2,7 @@
 use Rattle.std.specs.Prelude.{Some, None, Ok, Err}
 use Prim.Native.Nat.{ℕ, ◌/◌, ◌<◌}
 use native.Mathlib.Omega.{arith}
-use mathlib.Core.Path.{◌≡◌, sym, ap, ◌∙◌, subst, subst₂}
+use mathlib.Core.Path.{◌≡◌, sym, ap, ap₂, ◌∙◌, subst, subst₂}
 use mathlib.Core.List.{List}
 use lib.ListN.{length, take}
 use Rattle.refusals.specs.Answer.{completed}
@@ -28,7 +28,8 @@ use Rattle.plan_buffers.specs.SixOutputs.{word_counts_of}
 use Rattle.plan_buffers.specs.SevenBuffers.{Buffers, lengths_of, Held}
 use Rattle.plan_buffers.specs.declared.WordCounts.{WordCounts}
 use Rattle.answer.specs.declared.ActiveComponentPlan.{ActiveComponentPlan}
-use Rattle.answer.specs.Outcome.{used_in, outcome_of, outcome_in}
+use Rattle.answer.specs.Outcome.{Fields, used_in, outcome_of, outcome_in}
+use Rattle.answer.proofs.Told.{fields_same}
 use Rattle.component_plan.specs.Answer.{Answers}
 use Rattle.component_plan.specs.Demand.{plan_in}
 use Rattle.component_plan.proofs.Demand.{planned_pads, call_connected, call_sources, call_groups, call_works_agree, call_too_wide, call_dimensions, call_squares, call_under}
@@ -92,9 +93,8 @@ too_wide h ws before after p leaves read =
 works_same : (p : Plan) (r : ActiveComponentPlan) → outcome_of (Ok r) ≡ outcome_in (completed p)
     → NonNegative p.dense_work × NonNegative p.component_work → NonNegative r.estimated_dense_work × NonNegative r.estimated_component_work
 works_same p r e works =
-    let dense : p.dense_work ≡ r.estimated_dense_work = cc in
-    let component : p.component_work ≡ r.estimated_component_work = cc in
-    (subst NonNegative dense works.0, subst NonNegative component works.1)
+    let same = sym (fields_same e) in
+    (subst NonNegative (ap (λ (f : Fields). f.dense_work) same) works.0, subst NonNegative (ap (λ (f : Fields). f.component_work) same) works.1)
 
 pub not_negative : WorksAreNotNegative
 not_negative h ws before after p leaves =
@@ -114,9 +114,30 @@ dimensions h ws before after p leaves read =
 
 -- ---- ceilings
 
+-- the plan of these fields and words
+abbrev plan_with : Fields → Buffers → Plan
+plan_with f b = record {
+  selected = f.selected;
+  initial_components = f.initial_components;
+  component_count = f.component_count;
+  dense_work = f.dense_work;
+  component_work = f.component_work;
+  dense_peak = f.dense_peak;
+  peak = f.peak;
+  allocated = f.allocated;
+  whole_works = f.whole_works;
+  steps = b.steps;
+  merges = b.merges;
+  sizes = b.sizes;
+  rotations = b.rotations;
+  promotions = b.promotions;
+  measurements = b.measurements;
+  groups = b.groups;
+}
+
 -- answers with one outcome say one plan
 one_plan : (r r' : ActiveComponentPlan) (after after' : Buffers) → outcome_of (Ok r') ≡ outcome_of (Ok r) → after' ≡ after → plan_in r' after' ≡ plan_in r after
-one_plan r r' after after' e same = cc
+one_plan r r' after after' e same = ap₂ plan_with (fields_same e) same
 
 module _ (h : Head) (ws : List ℕ) (before after before' after' : Buffers) (ceiling : ℕ) (lengths : lengths_of before' ≡ lengths_of before) (r : ActiveComponentPlan)
     (answers : Answers h ws before after (Ok r)) where
@@ -188,15 +209,15 @@ no_other_plan h ws before after before' after' p q ceiling lengths leaves other 
 -- an answer that says what a plan says that says nothing
 says_same : (h : Head) (p : Plan) (r : ActiveComponentPlan) (after : Buffers) → outcome_of (Ok r) ≡ outcome_in (completed p) → SaysNothing h p → SaysNothing h (plan_in r after)
 says_same h p r after e s = record {
-  selected = cc;
-  initial_components = cc;
-  component_count = cc;
-  dense_work = cc;
-  component_work = cc;
-  dense_peak = cc;
-  peak = cc;
-  allocated = cc;
-  whole_works = cc;
+  selected = ap (λ (f : Fields). f.selected) (fields_same e) ∙ s.selected;
+  initial_components = ap (λ (f : Fields). f.initial_components) (fields_same e) ∙ s.initial_components;
+  component_count = ap (λ (f : Fields). f.component_count) (fields_same e) ∙ s.component_count;
+  dense_work = ap (λ (f : Fields). f.dense_work) (fields_same e) ∙ s.dense_work;
+  component_work = ap (λ (f : Fields). f.component_work) (fields_same e) ∙ s.component_work;
+  dense_peak = ap (λ (f : Fields). f.dense_peak) (fields_same e) ∙ s.dense_peak;
+  peak = ap (λ (f : Fields). f.peak) (fields_same e) ∙ s.peak;
+  allocated = ap (λ (f : Fields). f.allocated) (fields_same e) ∙ s.allocated;
+  whole_works = ap (λ (f : Fields). f.whole_works) (fields_same e) ∙ s.whole_works;
 }
 
 pub unread_empty : UnreadSaysNothing

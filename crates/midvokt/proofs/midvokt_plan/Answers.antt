@@ -2,6 +2,7 @@
 use Rattle.std.proofs.Common.{rules, ap, ◌∙◌}
 use lib.ListN.{length}
 use Rattle.refusals.specs.Answer.{Outcome}
+use Rattle.answer.specs.Outcome.{Fields}
 use Rattle.midvokt.specs.Reply.{number_of, words_of, laid_out}
 use Rattle.midvokt.proofs.Laid.{plan_told}
 use Rattle.midvokt.proofs.midvokt_plan.Goals as goal
