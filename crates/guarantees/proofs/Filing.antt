@@ -9,7 +9,7 @@ use lib.Dec.{ltb}
 use lib.ListN.{length, get_or, take}
 use Rattle.std.proofs.lemmas.List.{get_or_append_left}
 use lib.Seq.{get_or-append-add}
-use Rattle.refusals.specs.Answer.{completed, refused_at, Outcome, given, refused}
+use Rattle.refusals.specs.Answer.{completed, refused_at, given, refused}
 use Rattle.words.specs.Lists.{padded}
 use Rattle.words.proofs.Padded.{front_of_padded}
 use Rattle.words.proofs.Bytes.{length_words}

@@ -10,7 +10,7 @@ use lib.Dec.{ltb}
 use lib.ListN.{length}
 use Rattle.refusals.specs.Answer.{completed, refused_at}
 use Rattle.records.specs.Record.{instructions_of}
-use Rattle.records.specs.Pass.{Checked, Passed, record_pass}
+use Rattle.records.specs.Pass.{Checked, record_pass}
 use Rattle.records.specs.declared.Head.{Head}
 use Rattle.records.proofs.Laws.{refused_in}
 use Rattle.plan_spec.specs.Walk.{Walked, start, walk_from}

@@ -58,7 +58,7 @@ components h ws before after p leaves read m within =
 
 -- an answer uses as many words as the definition's plan
 used_same : (r : ActiveComponentPlan) (result : Result) (q : Plan) → outcome_of (Ok r) ≡ outcome_in result → result ≡ completed q → r.used ≡ used_in q
-used_same r result q e f = let given : outcome_of (Ok r) ≡ outcome_in (completed q) = e ∙ ap outcome_in f in cc
+used_same r result q e f = ap (λ (g : Fields). g.used) (fields_same (e ∙ ap outcome_in f))
 
 pub sources : SourcesAreListed
 sources h ws before after p q leaves read is =

@@ -1,10 +1,9 @@
 -- What a call that refuses tells, and what it leaves: the definition's refusal, and zeros.
 use mathlib.Core.Path.{◌≡◌, sym, ap, ◌∙◌, subst}
 use mathlib.Core.List.{List}
-use Prim.Native.Nat.{ℕ, ◌-◌, ◌<◌}
-use native.Mathlib.Nat.{sub-zero}
+use Prim.Native.Nat.{ℕ, ◌<◌}
 use native.Mathlib.Omega.{arith}
-use Rattle.std.specs.Prelude.{None, replicate}
+use Rattle.std.specs.Prelude.{None}
 use lib.ListN.{length, get_or}
 use Rattle.refusals.specs.Answer.{completed, refused_at}
 use Rattle.refusals.specs.Numbers as Reasons
@@ -44,17 +43,7 @@ refusal_told h ws before after number index (Refuses.reply res words n some room
 
 -- after a refusal each buffer holds zeros
 pub zeros_held : (number index : ℕ) (before after : Buffers) → Held (refused_at number index) before after → after ≡ zeroed before
-zeros_held number index before after held =
-    let none : (n : ℕ) (ws : List ℕ) → ws ≡ replicate (n - 0) 0 → ws ≡ replicate n 0 = λ n ws e. e ∙ ap (λ (k : ℕ). replicate k 0) (sub-zero n) in
-    λ j. record {
-      steps = none (length before.steps) after.steps held.steps j;
-      merges = none (length before.merges) after.merges held.merges j;
-      sizes = none (length before.sizes) after.sizes held.sizes j;
-      rotations = none (length before.rotations) after.rotations held.rotations j;
-      promotions = none (length before.promotions) after.promotions held.promotions j;
-      measurements = none (length before.measurements) after.measurements held.measurements j;
-      groups = none (length before.groups) after.groups held.groups j;
-    }
+zeros_held number index before after held = held
 
 pub zeros_left : (h : Head) (ws : List ℕ) (before after : Buffers) → Leaves h ws before after None → after ≡ zeroed before
 zeros_left h ws before after (Leaves.refusal r a) =

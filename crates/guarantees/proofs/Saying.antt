@@ -18,7 +18,6 @@ use Rattle.plan_spec.proofs.Room.{unread_planned, unread_is}
 use Rattle.plan_spec.proofs.Works.{reached_nonneg}
 use Rattle.guarantees.specs.Calls.{zeroed}
 use Rattle.guarantees.specs.Promises.{SaysNothing}
-use Rattle.guarantees.proofs.Refusing.{zeros_held}
 use Rattle.plan_buffers.specs.SevenBuffers.{Buffers, Held}
 
 -- ---- works
@@ -79,12 +78,4 @@ unread_says h ws l p u e = go (max_dimension h) refl (ceiling_passed h ws l p e)
 -- its buffers hold zeros
 pub unread_held : (initial dense_peak : ℕ) (before after : Buffers) → Held (completed (unread_plan initial dense_peak)) before after → after ≡ zeroed before
 unfolding unread_plan plan_from start
-unread_held initial dense_peak before after held = zeros_held 0 0 before after (record {
-  steps = held.steps;
-  merges = held.merges;
-  sizes = held.sizes;
-  rotations = held.rotations;
-  promotions = held.promotions;
-  measurements = held.measurements;
-  groups = held.groups;
-})
+unread_held initial dense_peak before after held = held

@@ -1,7 +1,7 @@
 -- What a call leaves, whether it is made in Rattle or in C: a plan, a refusal, a file, what a file
 -- keeps, or a list that was optimized. It is read off the call's answer, or off the words of its
 -- reply, and off the lent buffers.
-use Rattle.std.specs.Prelude.{ℕ, ◌≡◌, ◌≤◌, ◌<◌, List, Option, Some, None, not, ◌==◌, if◌then◌else◌, map, get_or, length, take, replicate, Ok, Err}
+use Rattle.std.specs.Prelude.{ℕ, ◌≡◌, ◌≤◌, ◌<◌, List, Option, Some, None, not, ◌==◌, if◌then◌else◌, map, get_or, length, take, Ok, Err}
 use Rattle.std.specs.Float.{binary64}
 use Rattle.std.specs.Float.Ieee.{of_bits}
 use Rattle.words.specs.Lists.{numbers_from}
@@ -12,7 +12,7 @@ use Rattle.records.specs.declared.Head.{Head}
 use Rattle.plan_spec.specs.WholeWorks.{WholeWorks, too_wide, without_quotient, with_quotient}
 use Rattle.plan_spec.specs.Plan.{Plan}
 use Rattle.plan_buffers.specs.declared.WordCounts.{WordCounts}
-use Rattle.plan_buffers.specs.SevenBuffers.{Buffers}
+use Rattle.plan_buffers.specs.SevenBuffers.{Buffers, lengths_of, padded_buffers, no_words}
 use Rattle.plan_buffers.specs.SixOutputs.{Outputs}
 use Rattle.answer.specs.declared.ActiveComponentPlan.{ActiveComponentPlan}
 use Rattle.component_plan.specs.Answer.{Answers}
@@ -86,15 +86,7 @@ pub record IsRead (h : Head) : Type 0 where
 
 -- seven buffers of these lengths, with zeros alone
 abbrev pub zeroed : Buffers → Buffers
-zeroed b = record {
-  steps = replicate (length b.steps) 0;
-  merges = replicate (length b.merges) 0;
-  sizes = replicate (length b.sizes) 0;
-  rotations = replicate (length b.rotations) 0;
-  promotions = replicate (length b.promotions) 0;
-  measurements = replicate (length b.measurements) 0;
-  groups = replicate (length b.groups) 0;
-}
+zeroed b = padded_buffers (lengths_of b) no_words
 
 -- ---- files
 

@@ -20,7 +20,6 @@ use Rattle.plan_spec.specs.Sources.{Sources, Listed, SourcesListed}
 use Rattle.plan_spec.specs.Groups.{GroupsListed}
 use Rattle.plan_spec.specs.Laws.{Agree, TooWideExactly, NonNegative, Whole, Fits, HasDimensions, under, HoldsPlan}
 use Rattle.plan_buffers.specs.SevenBuffers.{Buffers, lengths_of}
-use Rattle.plan_buffers.specs.declared.WordCounts.{WordCounts}
 use Rattle.plan_buffers.specs.SixOutputs.{Outputs, word_counts_of}
 use Rattle.stored_plan.specs.Stored.{Kept, kept_of, bytes_of, file_of}
 use Rattle.stored_plan.specs.Reading.{trailer_word}
