@@ -18,7 +18,7 @@ use Rattle.plan_spec.specs.Walk.{start}
 use Rattle.plan_spec.specs.Laws.{Agree, TooWideExactly, NonNegative, HasDimensions, under, HoldsPlan}
 use Rattle.plan_spec.proofs.Steps.{run_of_walk}
 use Rattle.plan_spec.proofs.Growth.{refused_index}
-use Rattle.plan_spec.proofs.Sources.{sources_unique}
+use Rattle.plan_spec.proofs.Sources.{walk_sources, sources_unique}
 use Rattle.plan_spec.proofs.Groups.{groups_unique}
 use Rattle.plan_spec.proofs.States.{reached_whole}
 use Rattle.plan_spec.proofs.Room.{plan_fits}
@@ -41,7 +41,7 @@ use Rattle.stored_plan.proofs.RoundTrip.{file_is}
 use Rattle.stored_plan.proofs.Plans.{file_most, plan_restored, same_file}
 use Rattle.optimizer.proofs.Left.{left}
 use Rattle.guarantees.specs.Calls.{Leaves}
-use Rattle.guarantees.specs.Promises.{ComponentsAreRight, SourcesAreListed, SourcesAreUnique, GroupsAreListed, GroupsAreUnique, WorksAgree, TooWideIsExact, WorksAreNotNegative, PairsAreUnits, DimensionsFit, PlanIsKept, NoOtherPlan, SaysNothing, UnreadSaysNothing, RoomIsEnough, GuardsNeverFail, RefusalIsPlaced, RefusalLeavesZeros, RowsAreRead, PartsAreRead, StoredIsReadBack, FileIsShort, FileIsOne, PlanIsOne, ListIsKept, ExpectationKeepsList}
+use Rattle.guarantees.specs.Promises.{ComponentsAreRight, SourcesAreListed, EveryJoinIsListed, SourcesAreUnique, GroupsAreListed, GroupsAreUnique, WorksAgree, TooWideIsExact, WorksAreNotNegative, PairsAreUnits, DimensionsFit, PlanIsKept, NoOtherPlan, SaysNothing, UnreadSaysNothing, RoomIsEnough, GuardsNeverFail, RefusalIsPlaced, RefusalLeavesZeros, RowsAreRead, PartsAreRead, StoredIsReadBack, FileIsShort, FileIsOne, PlanIsOne, ListIsKept, ExpectationKeepsList}
 use Rattle.guarantees.proofs.Numbers.{refused_number}
 use Rattle.guarantees.proofs.Leaving.{said}
 use Rattle.guarantees.proofs.Planned.{planned_back, listed_part}
@@ -66,6 +66,9 @@ sources h ws before after p q leaves read is =
     let used = used_same s.answer (plan_of h ws (lengths_of before)) q s.answers.answer is in
     subst₂ (λ (x : Plan) (n : WordCounts). SourcesListed h.initial_k (instructions_of ws) x (n.rotations / 21) (n.measurements / 19)) s.same used
     (call_sources h ws before after s.answer s.answers read.wide read.no_values)
+
+pub every_join : EveryJoinIsListed
+every_join h ws i w comes = walk_sources h.ceiling h.initial_k (take i (instructions_of ws)) w comes
 
 pub one_sources : SourcesAreUnique
 one_sources order held x z xs ys s t = sources_unique s t

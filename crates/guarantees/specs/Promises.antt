@@ -16,7 +16,7 @@ use Rattle.plan_spec.specs.WholeWorks.{without_quotient}
 use Rattle.plan_spec.specs.Walk.{Walk, start, walk_from}
 use Rattle.plan_spec.specs.Plan.{Plan, unread, plan_of}
 use Rattle.plan_spec.specs.Connectivity.{Connected, Replayed, listed_by, replay_after}
-use Rattle.plan_spec.specs.Sources.{Sources, Listed, SourcesListed}
+use Rattle.plan_spec.specs.Sources.{Sources, JoinsListed, Listed, SourcesListed}
 use Rattle.plan_spec.specs.Groups.{GroupsListed}
 use Rattle.plan_spec.specs.Laws.{Agree, TooWideExactly, NonNegative, Whole, Fits, HasDimensions, under, HoldsPlan}
 use Rattle.plan_buffers.specs.SevenBuffers.{Buffers, lengths_of}
@@ -46,6 +46,11 @@ OfReadPlans P = OfPlans λ h ws p. IsRead h → P h ws p
 abbrev pub IsPlanOf : Head → List ℕ → Buffers → Plan → Type 0
 IsPlanOf h ws before p = plan_of h ws (lengths_of before) ≡ completed p
 
+-- the state in which the definition's walk comes to record i
+abbrev pub ComesTo : Head → List ℕ → ℕ → Walk → Type 0
+ComesTo h ws i w =
+    walk_from h.ceiling 0 (start h.initial_k) (take i (instructions_of ws)) ≡ completed w
+
 -- ---- components
 
 -- after each number m of records the components are right
@@ -72,6 +77,14 @@ SourcesAreListed =
     → IsRead h
     → IsPlanOf h ws before q
     → SourcesListed h.initial_k (instructions_of ws) p (rotation_rows q) (measurement_rows q)
+
+-- in each state to which the definition's walk comes, the sources of a join, whatever its masks,
+-- are the touched components
+abbrev pub EveryJoinIsListed : Type 0
+EveryJoinIsListed =
+    (h : Head) (ws : List ℕ) (i : ℕ) (w : Walk)
+    → ComesTo h ws i w
+    → JoinsListed w
 
 -- one list only is the sources of a join
 abbrev pub SourcesAreUnique : Type 0
@@ -178,11 +191,6 @@ RoomIsEnough =
     → Fits p (length ws / 8)
 
 -- ---- guards
-
--- the state in which the definition's walk comes to record i
-abbrev pub ComesTo : Head → List ℕ → ℕ → Walk → Type 0
-ComesTo h ws i w =
-    walk_from h.ceiling 0 (start h.initial_k) (take i (instructions_of ws)) ≡ completed w
 
 -- the definition's walk comes to no state against which the Rust guards
 abbrev pub GuardsNeverFail : Type 0

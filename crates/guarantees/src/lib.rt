@@ -9,7 +9,7 @@
 //! contract.
 #![tactic(auto)]
 
-ghost use Rattle.guarantees.specs.Promises.{ComponentsAreRight, SourcesAreListed, SourcesAreUnique, GroupsAreListed, GroupsAreUnique, WorksAgree, TooWideIsExact, WorksAreNotNegative, PairsAreUnits, DimensionsFit, PlanIsKept, NoOtherPlan, UnreadSaysNothing, RoomIsEnough, GuardsNeverFail, RefusalIsPlaced, RefusalLeavesZeros, RowsAreRead, PartsAreRead, StoredIsReadBack, FileIsShort, FileIsOne, PlanIsOne, ListIsKept, ExpectationKeepsList};
+ghost use Rattle.guarantees.specs.Promises.{ComponentsAreRight, SourcesAreListed, EveryJoinIsListed, SourcesAreUnique, GroupsAreListed, GroupsAreUnique, WorksAgree, TooWideIsExact, WorksAreNotNegative, PairsAreUnits, DimensionsFit, PlanIsKept, NoOtherPlan, UnreadSaysNothing, RoomIsEnough, GuardsNeverFail, RefusalIsPlaced, RefusalLeavesZeros, RowsAreRead, PartsAreRead, StoredIsReadBack, FileIsShort, FileIsOne, PlanIsOne, ListIsKept, ExpectationKeepsList};
 
 // ---- a plan
 
@@ -23,9 +23,11 @@ pub fn components()
 {}
 
 /// The row of each join lists the touched components: the largest first, the smallest number among
-/// equals, and then all others, strictly ascending. No other list is that.
+/// equals, and then all others, strictly ascending. So does every join that the walk makes,
+/// whatever becomes of its program. No other list is that.
 pub fn sources()
     ensures listed { SourcesAreListed }
+    ensures every_join { EveryJoinIsListed }
     ensures no_other_list { SourcesAreUnique }
 {}
 
