@@ -10,7 +10,7 @@ use lib.Ieee.{Float}
 use Rattle.refusals.specs.Answer.{completed, refused_at}
 use Rattle.words.proofs.Padded.{zeroed_at}
 use Rattle.records.specs.Record.{kind, sine, cosine, record_at, instructions_of}
-use Rattle.records.specs.Sound.{UnitPair}
+use Rattle.records.specs.Sound.{IsUnitPair}
 use Rattle.records.specs.declared.Head.{Head}
 use Rattle.plan_spec.specs.WholeWorks.{WholeWorks}
 use Rattle.plan_spec.specs.Plan.{Lengths, Plan, Result, plan_of}
@@ -136,7 +136,7 @@ call_dimensions h ws before after r a wide none =
 -- 02, CR 5, of the records of a call that gives a plan: no rotation's sine and cosine are both zero
 pub call_squares : (h : Head) (ws : List ℕ) (before after : Buffers) (r : ActiveComponentPlan) → Answers h ws before after (Ok r)
     → 8 ≤ h.max_k → h.nexpvals ≡ 0
-    → (i : ℕ) → i < length ws / 8 → kind (record_at ws i) ≡ 0 → UnitPair (sine (record_at ws i)) (cosine (record_at ws i))
+    → (i : ℕ) → i < length ws / 8 → kind (record_at ws i) ≡ 0 → IsUnitPair (sine (record_at ws i)) (cosine (record_at ws i))
 call_squares h ws before after r a wide none =
     let found = planned_works (plan_of h ws (lengths_of before)) r a.answer in
     rotation_squares h ws (lengths_of before) found.0 (read_head h wide none) found.1

@@ -7,7 +7,7 @@ use mathlib.Core.Path.{◌≡◌, refl, sym, ap, ◌∙◌, subst}
 use mathlib.Core.List.{List}
 use lib.ListN.{length, take, get_or}
 use Rattle.refusals.specs.Answer.{completed}
-use Rattle.words.specs.Words.{AllBelow}
+use Rattle.words.specs.Words.{AreBelow}
 use Rattle.words.proofs.Patches.{begins_length}
 use Rattle.words.proofs.Words.{below_each}
 use Rattle.records.specs.Record.{instructions_of}
@@ -70,8 +70,8 @@ module _ (h : Head) (dense_peak : ℕ) (ws : List ℕ) (before : Buffers) (lent 
     sizes_front = front_is done.count ended.0.longest walked.sizes sizes_counted ended.2.sizes
 
     -- no size reaches 64
-    pub sizes_below : AllBelow 64 (take done.count walked.sizes)
-    sizes_below = subst (AllBelow 64) (sym sizes_front) (below_each ended.0.longest λ i l. reached_longest 64 (omega arith) (omega arith) h.initial_k run i)
+    pub sizes_below : AreBelow 64 (take done.count walked.sizes)
+    sizes_below = subst (AreBelow 64) (sym sizes_front) (below_each ended.0.longest λ i l. reached_longest 64 (omega arith) (omega arith) h.initial_k run i)
 
     module _ (all : ℕ) (r : ActiveComponentPlan) (sum : all ≡ allocated_for (take done.count walked.sizes))
         (made : outcome_of (Ok r) ≡ finished_outcome h.initial_k dense_peak done (length ws / 8) all) where

@@ -4,7 +4,7 @@
 pub mod refusing;
 
 ghost use Rattle.std.specs.Prelude.{◌≡◌, ◌≤◌, length, take};
-ghost use Rattle.words.specs.Words.{AllBelow};
+ghost use Rattle.words.specs.Words.{AreBelow};
 ghost use Rattle.plan_spec.specs.Components.{allocated_for};
 ghost use Rattle.plan_buffers.specs.SevenBuffers.{buffers_of};
 ghost use Rattle.plan_buffers.specs.SixOutputs.{SameOutputs};
@@ -22,7 +22,7 @@ use walk::walk;
 // What the first of the longest sizes allocate, as many as there are components.
 fn allocated_in(out: &StoredOutputs, count: usize) -> u64
     requires inside { count ≤ length out.now.sizes.now }
-    requires below { AllBelow 64 (take count out.now.sizes.now) }
+    requires below { AreBelow 64 (take count out.now.sizes.now) }
     ensures { result ≡ allocated_for (take count out.now.sizes.now) }
 {
     allocated(&out.sizes[..count])

@@ -24,7 +24,7 @@ use Rattle.plan_spec.specs.Components.{local_mask}
 use Rattle.plan_spec.specs.Walk.{Written, Walk, Join, join_of, no_step, ignored_step, promotion_step, rotation_step, measurement_step, start, step, onward, walk_from}
 use Rattle.plan_spec.specs.Plan.{Plan, plan_from, plan_of, unread}
 use Rattle.plan_spec.specs.Connectivity.{listed_by}
-use Rattle.plan_spec.specs.Sources.{Listed}
+use Rattle.plan_spec.specs.Sources.{IsListed}
 use Rattle.plan_spec.proofs.Steps.{Stepped, ignored, rotated, promoted, measured, recorded, detected, expected, branched, Run, more, run_of_walk}
 use Rattle.plan_spec.proofs.Growth.{Grown, AllOf, length_concat, concat-append, concat_more, rotation_row_length, measurement_row_length, run_grown, run_rotations, run_measurements, start_wide}
 use Rattle.plan_spec.proofs.Replay.{seam_part, seam_entry}
@@ -196,5 +196,5 @@ planned_back h ws before after r answers read i below =
     )
 
 -- and the part that the offset and the count of a join's row give is the row's list, of which `Demand.call_sources` tells what stands in it
-pub listed_part : (p : Plan) (m kind : ℕ) (row order : List ℕ) (x z : ℕ) → Listed p m kind row order x z → part_of p.merges (row_merge_offset row) (row_merge_count row) ≡ listed_by p row
+pub listed_part : (p : Plan) (m kind : ℕ) (row order : List ℕ) (x z : ℕ) → IsListed p m kind row order x z → part_of p.merges (row_merge_offset row) (row_merge_count row) ≡ listed_by p row
 listed_part p m kind row order x z c = part_there p.merges (row_merge_offset row) (row_merge_count row) c.inside

@@ -15,7 +15,7 @@ use Rattle.plan_spec.specs.Connectivity.{Connected, replay_after}
 use Rattle.plan_spec.specs.Sources.{SourcesListed}
 use Rattle.plan_spec.specs.Groups.{GroupsListed}
 use Rattle.plan_spec.specs.Walk.{start}
-use Rattle.plan_spec.specs.Laws.{Agree, TooWideExactly, NonNegative, HasDimensions, under, HoldsPlan}
+use Rattle.plan_spec.specs.Laws.{Agree, TooWideExactly, IsNonNegative, HasDimensions, under, HoldsPlan}
 use Rattle.plan_spec.proofs.Steps.{run_of_walk}
 use Rattle.plan_spec.proofs.Growth.{refused_index}
 use Rattle.plan_spec.proofs.Sources.{walk_sources, sources_unique}
@@ -94,17 +94,17 @@ too_wide h ws before after p leaves read =
 
 -- an answer that is a plan has the works of the definition's
 works_same : (p : Plan) (r : ActiveComponentPlan) → outcome_of (Ok r) ≡ outcome_in (completed p)
-    → NonNegative p.dense_work × NonNegative p.component_work → NonNegative r.estimated_dense_work × NonNegative r.estimated_component_work
+    → IsNonNegative p.dense_work × IsNonNegative p.component_work → IsNonNegative r.estimated_dense_work × IsNonNegative r.estimated_component_work
 works_same p r e works =
     let same = sym (fields_same e) in
-    (subst NonNegative (ap (λ (f : Fields). f.dense_work) same) works.0, subst NonNegative (ap (λ (f : Fields). f.component_work) same) works.1)
+    (subst IsNonNegative (ap (λ (f : Fields). f.dense_work) same) works.0, subst IsNonNegative (ap (λ (f : Fields). f.component_work) same) works.1)
 
 pub not_negative : WorksAreNotNegative
 not_negative h ws before after p leaves =
     let l = lengths_of before in
     let s = said h ws before after p leaves in
     let found = planned_pads (plan_of h ws l) before after s.answer s.answers.answer s.answers.held in
-    subst (λ (q : Plan). NonNegative q.dense_work × NonNegative q.component_work) s.same
+    subst (λ (q : Plan). IsNonNegative q.dense_work × IsNonNegative q.component_work) s.same
     (works_same found.0 s.answer (s.answers.answer ∙ ap outcome_in found.1) (works_not_negative h ws l found.0 found.1))
 
 pub pairs : PairsAreUnits

@@ -11,7 +11,7 @@ use Rattle.kernels.specs.Bits.{dimension}
 use Rattle.records.specs.declared.Head.{Head}
 use Rattle.plan_spec.specs.Walk.{start}
 use Rattle.plan_spec.specs.Plan.{Lengths, Plan, unread, unread_plan, plan_from, max_dimension, for_dense_peak, plan_of}
-use Rattle.plan_spec.specs.Laws.{NonNegative, number}
+use Rattle.plan_spec.specs.Laws.{IsNonNegative, number}
 use Rattle.plan_spec.proofs.Steps.{cond_yes}
 use Rattle.plan_spec.proofs.Accepted.{ceiling_passed, accepted}
 use Rattle.plan_spec.proofs.Room.{unread_planned, unread_is}
@@ -23,7 +23,7 @@ use Rattle.plan_buffers.specs.SevenBuffers.{Buffers, Held}
 -- ---- works
 
 abbrev Works : Plan → Type 0
-Works p = NonNegative p.dense_work × NonNegative p.component_work
+Works p = IsNonNegative p.dense_work × IsNonNegative p.component_work
 
 unread_works : (initial dense_peak : ℕ) → Works (unread_plan initial dense_peak)
 unread_works initial dense_peak = subst Works (sym (unread_is initial dense_peak)) (number 0 (pos 0), number 0 (pos 0))

@@ -5,9 +5,9 @@ use Rattle.std.specs.Float.{fin}
 use Rattle.std.specs.List.{list_any}
 use Rattle.refusals.specs.Answer.{completed, given}
 use Rattle.words.specs.Lists.{part_of}
-use Rattle.words.specs.Words.{Bytes}
+use Rattle.words.specs.Words.{AreBytes}
 use Rattle.records.specs.Record.{kind, sine, cosine, record_at, instructions_of}
-use Rattle.records.specs.Sound.{UnitPair}
+use Rattle.records.specs.Sound.{IsUnitPair}
 use Rattle.records.specs.declared.Head.{Head}
 use Rattle.records.specs.declared.Instruction.{Instruction}
 use Rattle.records.specs.declared.Instruction.TheVariants.{DormantBranch}
@@ -16,15 +16,15 @@ use Rattle.plan_spec.specs.WholeWorks.{without_quotient}
 use Rattle.plan_spec.specs.Walk.{Walk, start, walk_from}
 use Rattle.plan_spec.specs.Plan.{Plan, unread, plan_of}
 use Rattle.plan_spec.specs.Connectivity.{Connected, Replayed, listed_by, replay_after}
-use Rattle.plan_spec.specs.Sources.{Sources, JoinsListed, Listed, SourcesListed}
+use Rattle.plan_spec.specs.Sources.{AreSources, JoinsListed, IsListed, SourcesListed}
 use Rattle.plan_spec.specs.Groups.{GroupsListed}
-use Rattle.plan_spec.specs.Laws.{Agree, TooWideExactly, NonNegative, Whole, Fits, HasDimensions, under, HoldsPlan}
+use Rattle.plan_spec.specs.Laws.{Agree, TooWideExactly, IsNonNegative, IsWholeWalk, Fits, HasDimensions, under, HoldsPlan}
 use Rattle.plan_buffers.specs.SevenBuffers.{Buffers, lengths_of}
 use Rattle.plan_buffers.specs.SixOutputs.{Outputs, word_counts_of}
 use Rattle.stored_plan.specs.Stored.{Kept, kept_of, bytes_of, file_of}
 use Rattle.stored_plan.specs.Reading.{trailer_word}
 use Rattle.stored_plan.specs.Loading.{Restored}
-use Rattle.stored_plan.specs.Laws.{LongEnough, SamePlan}
+use Rattle.stored_plan.specs.Laws.{IsLongEnough, IsSamePlan}
 use Rattle.pending.specs.Operation.{operations_of, is_expectation}
 use Rattle.optimizer.specs.declared.Counts.{Counts}
 use Rattle.optimizer.specs.Laws.{Left}
@@ -90,8 +90,8 @@ EveryJoinIsListed =
 abbrev pub SourcesAreUnique : Type 0
 SourcesAreUnique =
     (order : List ℕ) (components : Replayed) (x z : ℕ) (xs ys : List ℕ)
-    → Sources order components x z xs
-    → Sources order components x z ys
+    → AreSources order components x z xs
+    → AreSources order components x z ys
     → xs ≡ ys
 
 -- ---- groups
@@ -123,7 +123,7 @@ TooWideIsExact =
 
 -- float works are no NaN, and not negative
 abbrev pub WorksAreNotNegative : Type 0
-WorksAreNotNegative = OfPlans λ h ws p. NonNegative p.dense_work × NonNegative p.component_work
+WorksAreNotNegative = OfPlans λ h ws p. IsNonNegative p.dense_work × IsNonNegative p.component_work
 
 -- ---- pairs
 
@@ -131,7 +131,7 @@ WorksAreNotNegative = OfPlans λ h ws p. NonNegative p.dense_work × NonNegative
 abbrev pub PairsAreUnits : Type 0
 PairsAreUnits =
     OfReadPlans λ h ws p. (i : ℕ) → i < length ws / 8 → kind (record_at ws i) ≡ 0
-    → UnitPair (sine (record_at ws i)) (cosine (record_at ws i))
+    → IsUnitPair (sine (record_at ws i)) (cosine (record_at ws i))
 
 -- ---- ceilings
 
@@ -197,7 +197,7 @@ abbrev pub GuardsNeverFail : Type 0
 GuardsNeverFail =
     (h : Head) (ws : List ℕ) (i : ℕ) (w : Walk)
     → ComesTo h ws i w
-    → Whole w
+    → IsWholeWalk w
 
 -- ---- refusals
 
@@ -234,7 +234,7 @@ RowsAreRead =
 abbrev pub PartsAreRead : Type 0
 PartsAreRead =
     (p : Plan) (m kind : ℕ) (row order : List ℕ) (x z : ℕ)
-    → Listed p m kind row order x z
+    → IsListed p m kind row order x z
     → part_of p.merges (get_or row 1 0) (get_or row 2 0) ≡ listed_by p row
 
 -- ---- files
@@ -244,7 +244,7 @@ PartsAreRead =
 abbrev pub IsReadBack : Plan → List ℕ → Type 0
 IsReadBack p file =
     (before after : Outputs) (o : Option Kept)
-    → LongEnough p (word_counts_of before)
+    → IsLongEnough p (word_counts_of before)
     → LeavesKept file before after o
     → (o ≡ Some (kept_of p)) × Restored (given (kept_of p)) before after
 
@@ -275,7 +275,7 @@ FileIsShort =
 abbrev pub FileIsOne : Type 0
 FileIsOne =
     (file : List ℕ) (before after : Outputs) (k : Kept)
-    → Bytes file
+    → AreBytes file
     → LeavesKept file before after (Some k)
     → bytes_of k ≡ file
 
@@ -288,7 +288,7 @@ PlanIsOne =
     → IsPlanOf h ws before p
     → IsPlanOf h' ws' before' q
     → file_of p ≡ file_of q
-    → SamePlan p q
+    → IsSamePlan p q
 
 -- ---- lists
 

@@ -14,7 +14,7 @@ use Rattle.std.proofs.lemmas.List.Elements.{All-from_recursion}
 use Rattle.pending.specs.Operation.{Operation}
 use Rattle.optimizer_spec.specs.Passes.{Placed, Pair}
 use Rattle.optimizer_spec.specs.Optimizing.{ends_of, placed_from, segments_of, boundary}
-use Rattle.optimizer_spec.specs.Claims.{times, output, fusions, boundary_of, Legal, Kept, Preserved, Ordered, Claims}
+use Rattle.optimizer_spec.specs.Claims.{times, output, fusions, boundary_of, IsLegal, IsKept, IsPreserved, AreOrdered, Claims}
 use Rattle.optimizer_spec.proofs.Lists.{Each_all, Each_weaker, AllPairs-from, total, sum_by-total, length-total, total-map, total-filter}
 use Rattle.optimizer_spec.proofs.Segments.{Run, run_length, placed_run, Stale, Settled, segments_settled, segments_total}
 use Rattle.optimizer_spec.proofs.Boundaries.{In, in_above, prefix_ends, ends_are, Cut, cut_parted, cut_within, segments_cut, OneSide, segments_apart}
@@ -90,7 +90,7 @@ module _ (os : List Operation) (prefixes : List ℕ) where
       (segments_cut os prefixes Fresh n (omega arith) p 0 0 ends (placed_from 0 os) (ends_are n prefixes) run stale i))
       at
 
-  preserved : (p : ℕ) → Contains prefixes p → p ≤ n → Preserved os prefixes p
+  preserved : (p : ℕ) → Contains prefixes p → p ≤ n → IsPreserved os prefixes p
   preserved p c l =
       let at = prefix_at p c l in
       let cut = prefix_cut p at in record {
@@ -128,12 +128,12 @@ module _ (os : List Operation) (prefixes : List ℕ) where
 pub claimed : (os : List Operation) (prefixes : List ℕ) → Claims os prefixes
 claimed os prefixes =
     let s = settled os prefixes in record {
-      ordered = AllPairs-from (Ordered os prefixes) (output os prefixes) s.ordered;
+      ordered = AllPairs-from (AreOrdered os prefixes) (output os prefixes) s.ordered;
       preserved = preserved os prefixes;
-      legal = All-from_recursion (Legal os prefixes) (fusions os prefixes) (Each_weaker _ (Legal os prefixes) (λ p w. w.2) (fusions os prefixes) s.legal);
+      legal = All-from_recursion (IsLegal os prefixes) (fusions os prefixes) (Each_weaker _ (IsLegal os prefixes) (λ p w. w.2) (fusions os prefixes) s.legal);
       kept =
-          All-from_recursion (Kept os prefixes) (output os prefixes)
-          (Each_weaker _ (Kept os prefixes) (λ o m. record { inside = m.below; whole = m.whole; rest = m.like.words; size = m.like.size }) (output os prefixes) s.mine);
+          All-from_recursion (IsKept os prefixes) (output os prefixes)
+          (Each_weaker _ (IsKept os prefixes) (λ o m. record { inside = m.below; whole = m.whole; rest = m.like.words; size = m.like.size }) (output os prefixes) s.mine);
       each_once = once os prefixes;
       counts = counted os prefixes;
     }

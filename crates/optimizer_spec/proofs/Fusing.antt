@@ -12,7 +12,7 @@ use Rattle.std.specs.List.{AllByRecursion as Each}
 use Rattle.std.proofs.lemmas.Bool.{cond_both}
 use Rattle.pending.specs.Operation.{Operation, is_rotation}
 use Rattle.optimizer_spec.specs.Passes.{Placed, Carried, stays, meets, carry, Pair, Fused, keeping, pairing, carried, fuse}
-use Rattle.optimizer_spec.specs.Claims.{input, Legal}
+use Rattle.optimizer_spec.specs.Claims.{input, IsLegal}
 use Rattle.optimizer_spec.proofs.Lists.{Pairs, total}
 use Rattle.optimizer_spec.proofs.Likeness.{like_itself, like_kind, like_crosses, like_fuses, fuses_parts, crosses_parts}
 use Rattle.optimizer_spec.proofs.Carrying.{Met, Meeting, carry_met, met_shorter, met_total, met_each, Mine, Held, held_below, met_fuses, met_between, met_held}
@@ -53,7 +53,7 @@ fuses_each P (fuses o e m k) h = fuses_each P k (met_each P m h.1).0
 
 -- a legal pair with its two places from `low` up to `high`
 abbrev pub Within : List Operation → List ℕ → (low high : ℕ) → Pair → Type 0
-Within os prefixes low high p = (low ≤ p.earlier) × (p.later < high) × Legal os prefixes p
+Within os prefixes low high p = (low ≤ p.earlier) × (p.later < high) × IsLegal os prefixes p
 
 module _ (os : List Operation) (prefixes : List ℕ) (low high : ℕ) (fits : high ≤ length os) (Fresh : ℕ → Type 0) where
   pub record Done (f : Fused) : Type 0 where

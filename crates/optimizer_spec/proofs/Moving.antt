@@ -11,7 +11,7 @@ use Rattle.std.specs.List.{AllByRecursion as Each, insert}
 use Rattle.std.proofs.lemmas.Bool.{cond_both, and_parts}
 use Rattle.pending.specs.Operation.{Operation, is_rotation, is_measurement, strings_commute, same_string}
 use Rattle.optimizer_spec.specs.Passes.{Placed, further, reach, passed, move}
-use Rattle.optimizer_spec.specs.Claims.{Ordered}
+use Rattle.optimizer_spec.specs.Claims.{AreOrdered}
 use Rattle.optimizer_spec.proofs.Lists.{Each_both, Each_weaker, Each-insert, Each-reverse, Pairs, Pairs-insert, Pairs-reverse, total, total-insert, total-reverse}
 
 -- ---- what a measurement passes
@@ -52,22 +52,22 @@ move_each P slack before (o ∷ rest) h k =
     move_each P slack (insert before n o) rest (Each-insert P n o before k.0 h) k.1
 
 module _ (os : List Operation) (prefixes : List ℕ) where
-  passed_each : (slack : Bool) (o : Placed) (before : List Placed) → Each (Ordered os prefixes o) (take (passed slack o.operation before) before)
+  passed_each : (slack : Bool) (o : Placed) (before : List Placed) → Each (AreOrdered os prefixes o) (take (passed slack o.operation before) before)
   unfolding passed
   passed_each slack o before =
-      cond_both (is_measurement o.operation) _ _ (λ n. Each (Ordered os prefixes o) (take n before))
-      (λ e. Each_weaker _ (Ordered os prefixes o) (λ r p. inr (e, p.0, p.1)) (take (reach slack o.operation before) before) (reach_each slack o.operation before))
+      cond_both (is_measurement o.operation) _ _ (λ n. Each (AreOrdered os prefixes o) (take n before))
+      (λ e. Each_weaker _ (AreOrdered os prefixes o) (λ r p. inr (e, p.0, p.1)) (take (reach slack o.operation before) before) (reach_each slack o.operation before))
       (λ e. tt)
 
   -- `before` has the nearest first
-  pub move_ordered : (slack : Bool) (before rest : List Placed) → Pairs (λ x y. Ordered os prefixes y x) before → Pairs (Ordered os prefixes) rest
-      → Each (λ r. Each (λ b. Ordered os prefixes b r) before) rest → Pairs (Ordered os prefixes) (move slack before rest).order
+  pub move_ordered : (slack : Bool) (before rest : List Placed) → Pairs (λ x y. AreOrdered os prefixes y x) before → Pairs (AreOrdered os prefixes) rest
+      → Each (λ r. Each (λ b. AreOrdered os prefixes b r) before) rest → Pairs (AreOrdered os prefixes) (move slack before rest).order
   unfolding move
-  move_ordered slack before [] h k c = Pairs-reverse (Ordered os prefixes) before [] h tt tt
+  move_ordered slack before [] h k c = Pairs-reverse (AreOrdered os prefixes) before [] h tt tt
   move_ordered slack before (o ∷ rest) h k c =
       let n = passed slack o.operation before in
       move_ordered slack (insert before n o) rest
-      (Pairs-insert (λ x y. Ordered os prefixes y x) n o before h (passed_each slack o before) c.0)
+      (Pairs-insert (λ x y. AreOrdered os prefixes y x) n o before h (passed_each slack o before) c.0)
       k.1
-      (Each_both (Ordered os prefixes o) (λ r. Each (λ b. Ordered os prefixes b r) before) (λ r. Each (λ b. Ordered os prefixes b r) (insert before n o))
-      (λ r p q. Each-insert (λ b. Ordered os prefixes b r) n o before p q) rest k.0 c.1)
+      (Each_both (AreOrdered os prefixes o) (λ r. Each (λ b. AreOrdered os prefixes b r) before) (λ r. Each (λ b. AreOrdered os prefixes b r) (insert before n o))
+      (λ r p q. Each-insert (λ b. AreOrdered os prefixes b r) n o before p q) rest k.0 c.1)

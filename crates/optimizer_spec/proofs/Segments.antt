@@ -13,7 +13,7 @@ use Rattle.std.proofs.lemmas.List.{take-append-drop}
 use Rattle.pending.specs.Operation.{Operation}
 use Rattle.optimizer_spec.specs.Passes.{Placed, Pair, segment_of, fuse, is_empty}
 use Rattle.optimizer_spec.specs.Optimizing.{placed_from, segments, operations_in, pairs_in}
-use Rattle.optimizer_spec.specs.Claims.{input, Ordered}
+use Rattle.optimizer_spec.specs.Claims.{input, AreOrdered}
 use Rattle.optimizer_spec.proofs.Lists.{Each_all, Each-append, Each_left, Each_right, Each_weaker, Pairs, Pairs-append, Pairs_weaker, total, total-append}
 use Rattle.optimizer_spec.proofs.Likeness.{like_itself}
 use Rattle.optimizer_spec.proofs.Carrying.{At, Mine, Held}
@@ -99,7 +99,7 @@ module _ (os : List Operation) (prefixes : List ℕ) where
     pub record Settled (low high : ℕ) (ops : List Placed) (pairs : List Pair) : Type 0 where
       pub legal : Each (Within os prefixes low high) pairs
       pub mine : Each (Mine os prefixes low high Fresh) ops
-      pub ordered : Pairs (Ordered os prefixes) ops
+      pub ordered : Pairs (AreOrdered os prefixes) ops
 
     -- to a fresh place no pair's later one was fused
     abbrev pub Stale : Pair → Type 0
@@ -116,7 +116,7 @@ module _ (os : List Operation) (prefixes : List ℕ) where
           mine = move_each (Mine os prefixes low high Fresh) slack [] f.left tt d.mine;
           ordered =
               move_ordered os prefixes slack [] f.left tt
-              (Pairs_weaker (λ a b. a.place < b.place) (Ordered os prefixes) (λ a b r. inl r) f.left d.rising)
+              (Pairs_weaker (λ a b. a.place < b.place) (AreOrdered os prefixes) (λ a b r. inl r) f.left d.rising)
               (Each_all (λ r. Unit {0}) (λ r. tt) f.left);
         }
 
@@ -136,9 +136,9 @@ module _ (os : List Operation) (prefixes : List ℕ) where
           (Each_weaker _ (Mine os prefixes low high Fresh) (wider low mid low high (omega arith) g) xs a.mine)
           (Each_weaker _ (Mine os prefixes low high Fresh) (wider mid high low high l (omega arith)) ys b.mine);
       ordered =
-          Pairs-append (Ordered os prefixes) xs ys a.ordered b.ordered
-          (Each_weaker (Mine os prefixes low mid Fresh) (λ x. Each (Ordered os prefixes x) ys)
-          (λ x m. Each_weaker (Mine os prefixes mid high Fresh) (Ordered os prefixes x) (λ y k. inl (omega (arith, m.below, k.from))) ys b.mine)
+          Pairs-append (AreOrdered os prefixes) xs ys a.ordered b.ordered
+          (Each_weaker (Mine os prefixes low mid Fresh) (λ x. Each (AreOrdered os prefixes x) ys)
+          (λ x m. Each_weaker (Mine os prefixes mid high Fresh) (AreOrdered os prefixes x) (λ y k. inl (omega (arith, m.below, k.from))) ys b.mine)
           xs a.mine);
     }
 

@@ -29,12 +29,12 @@ module _ (os : List Operation) (prefixes : List ℕ) where
 
   -- "two surviving operations (a fused pair counts as the one whose place it keeps) change order only if one is a measurement, the other a rotation, and they
   -- commute": a stands before b
-  abbrev pub Ordered : Placed → Placed → Type 0
-  Ordered a b =
+  abbrev pub AreOrdered : Placed → Placed → Type 0
+  AreOrdered a b =
       (a.place < b.place)
       ⊎ ((is_measurement a.operation ≡ true) × (is_rotation b.operation ≡ true) × (strings_commute a.operation b.operation ≡ true))
 
-  pub record Preserved (p : ℕ) : Type 0 where
+  pub record IsPreserved (p : ℕ) : Type 0 where
     -- "nothing crosses a preserved prefix": what is left stands before its boundary exactly if its place does
     pub sides : (i : ℕ) (d : Placed) → i < length output → (i < boundary_of p) ↔ ((get_or output i d).place < p)
     -- no pair has its two on different sides
@@ -42,7 +42,7 @@ module _ (os : List Operation) (prefixes : List ℕ) where
     -- the boundary is one of what is left
     pub within : boundary_of p ≤ length output
 
-  pub record Legal (pair : Pair) : Type 0 where
+  pub record IsLegal (pair : Pair) : Type 0 where
     -- "the one whose place it keeps" is the later one
     pub ascending : pair.earlier < pair.later
     pub inside : pair.later < length os
@@ -58,7 +58,7 @@ module _ (os : List Operation) (prefixes : List ℕ) where
         → (has_string (input r) ≡ false) ⊎ (strings_commute (input pair.earlier) (input r) ≡ true)
 
   -- of an operation that is left
-  pub record Kept (o : Placed) : Type 0 where
+  pub record IsKept (o : Placed) : Type 0 where
     pub inside : o.place < length os
     -- it is its input's, unless a pair was fused into it
     pub whole : times o.place (map (λ pair. pair.later) fusions) ≡ 0 → o.operation ≡ input o.place
@@ -68,10 +68,10 @@ module _ (os : List Operation) (prefixes : List ℕ) where
     pub size : length o.operation ≡ length (input o.place)
 
   pub record Claims : Type 0 where
-    pub ordered : AllPairs Ordered output
-    pub preserved : (p : ℕ) → Contains prefixes p → p ≤ length os → Preserved p
-    pub legal : All Legal fusions
-    pub kept : All Kept output
+    pub ordered : AllPairs AreOrdered output
+    pub preserved : (p : ℕ) → Contains prefixes p → p ≤ length os → IsPreserved p
+    pub legal : All IsLegal fusions
+    pub kept : All IsKept output
     -- each place of the input is that of an operation that is left, or of the earlier of a pair, or of the later of a cancelled one, once
     pub each_once : (p : ℕ) →
         times p (map (λ o. o.place) output)

@@ -27,13 +27,13 @@ module _ (os : List Operation) (prefixes : List ℕ) where
   moment i = fuse_pairs (take i (fusions os prefixes)) os
 
   -- of pair i: it cancelled exactly if the sum of the two angles was 0 then
-  abbrev pub Exact : ℕ → Pair → Type 0
-  Exact i pair = pair.cancelled ≡ cancels (get_or (moment i) pair.earlier []) (get_or (moment i) pair.later [])
+  abbrev pub IsExact : ℕ → Pair → Type 0
+  IsExact i pair = pair.cancelled ≡ cancels (get_or (moment i) pair.earlier []) (get_or (moment i) pair.later [])
 
   pub record Further : Type 0 where
     -- the earlier ones are fused from left to right, and none into one that was cancelled
     pub in_turn : AllPairs (λ a b. (a.earlier < b.earlier) × (a.later ≡ b.later → a.cancelled ≡ false)) (fusions os prefixes)
-    pub exact : (i : ℕ) (d : Pair) → i < length (fusions os prefixes) → Exact i (get_or (fusions os prefixes) i d)
+    pub exact : (i : ℕ) (d : Pair) → i < length (fusions os prefixes) → IsExact i (get_or (fusions os prefixes) i d)
     -- an operation that is left is what the pairs made of its place
     pub values : All (λ o. o.operation ≡ get_or (moment (length (fusions os prefixes))) o.place []) (output os prefixes)
     -- "left swaps"

@@ -1,6 +1,6 @@
 //! The lent buffers other than rows: the longest sizes and what they allocate, and the groups.
 ghost use Rattle.std.specs.Prelude.{◌≡◌, ◌+◌, ◌-◌, ◌≤◌, ◌<◌, max, length, get_or, set, take};
-ghost use Rattle.words.specs.Words.{AllBelow};
+ghost use Rattle.words.specs.Words.{AreBelow};
 ghost use Rattle.plan_spec.specs.Components.{allocated_for};
 ghost use Rattle.plan_buffers.specs.Buffers.{counts_of, CountsFit, placed_up_to, PlacesFit};
 
@@ -14,7 +14,7 @@ pub fn raise_size(sizes: &mut [u64], component: usize, size: u64)
 
 /// The sum of 2 to the power of each size, or the largest word where that is smaller.
 pub fn allocated(sizes: &[u64]) -> u64
-    requires { AllBelow 64 sizes.now }
+    requires { AreBelow 64 sizes.now }
     ensures { result ≡ allocated_for sizes.now }
 {
     let mut sum = 0u64;

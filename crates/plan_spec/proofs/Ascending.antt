@@ -12,12 +12,12 @@ use Rattle.words.proofs.Numbers.{same_or_not}
 use Rattle.plan_spec.specs.Lists.{without, meet}
 use Rattle.plan_spec.specs.Components.{size_of, meeting, larger, largest}
 use Rattle.plan_spec.specs.Connectivity.{Member}
-use Rattle.plan_spec.specs.Sources.{Ascending, none, more}
+use Rattle.plan_spec.specs.Sources.{IsAscending, none, more}
 use Rattle.plan_spec.proofs.Counting.{member_head, member_tail, member_cons}
 use Rattle.plan_spec.proofs.Steps.{cond_yes, cond_no}
 use Rattle.plan_spec.proofs.Joins.{meeting_meets, larger_either, without_same, without_other}
 
-pub ascending_same : (xs ys : List ℕ) → Ascending xs → Ascending ys → ((a : ℕ) → Member a xs → Member a ys) → ((a : ℕ) → Member a ys → Member a xs) → xs ≡ ys
+pub ascending_same : (xs ys : List ℕ) → IsAscending xs → IsAscending ys → ((a : ℕ) → Member a xs → Member a ys) → ((a : ℕ) → Member a ys → Member a xs) → xs ≡ ys
 ascending_same [] [] none none f g = refl
 ascending_same [] (y ∷ ys) none (more l q) f g = absurd (let h = g y (member_head y ys) in omega arith)
 ascending_same (x ∷ xs) [] (more l q) none f g = absurd (let h = f x (member_head x xs) in omega arith)
@@ -33,15 +33,15 @@ ascending_same (x ∷ xs) (y ∷ ys) (more l p) (more k q) f g =
     (λ a m. ⊎_elim (λ e. absurd (let b = k a m in omega arith)) (λ n. n) (member_cons a x xs (g a (member_tail a y ys m)))))
 
 -- touched components are listed in ascending order
-pub meeting_ascending : (n : ℕ) (s : List ℕ) (cs : List (List ℕ)) → Ascending (meeting n s cs)
+pub meeting_ascending : (n : ℕ) (s : List ℕ) (cs : List (List ℕ)) → IsAscending (meeting n s cs)
 meeting_ascending n s [] = none
 meeting_ascending n s (m ∷ cs) = go (meet s m) refl (meeting_ascending (suc n) s cs)
   where
-    go : (t : Bool) → meet s m ≡ t → Ascending (meeting (suc n) s cs) → Ascending (meeting n s (m ∷ cs))
+    go : (t : Bool) → meet s m ≡ t → IsAscending (meeting (suc n) s cs) → IsAscending (meeting n s (m ∷ cs))
     go true e rest =
-        subst Ascending (sym (cond_yes (meet s m) _ _ e))
+        subst IsAscending (sym (cond_yes (meet s m) _ _ e))
         (more (λ b h. let k = meeting_meets (suc n) s cs b h in omega (arith, k.0)) rest)
-    go false e rest = subst Ascending (sym (cond_no (meet s m) _ _ e)) rest
+    go false e rest = subst IsAscending (sym (cond_no (meet s m) _ _ e)) rest
 
 -- ---- a list without one of its numbers
 
@@ -55,12 +55,12 @@ without_from a b xs h =
 pub without_holds : (a b : ℕ) (xs : List ℕ) → Member b xs → (b ≡ a → ⊥) → Member b (without a xs)
 without_holds a b xs h n = subst (λ (k : ℕ). 0 < k) (sym (without_other b a xs n)) h
 
-pub without_ascending : (a : ℕ) (xs : List ℕ) → Ascending xs → Ascending (without a xs)
+pub without_ascending : (a : ℕ) (xs : List ℕ) → IsAscending xs → IsAscending (without a xs)
 without_ascending a [] none = none
 without_ascending a (x ∷ xs) (more l p) =
     ⊎_elim
-    (λ e. subst Ascending (sym (cond_yes (eqb a x) _ _ (eq-eqb a x e))) (without_ascending a xs p))
-    (λ n. subst Ascending (sym (cond_no (eqb a x) _ _ (ne_eqb a x n)))
+    (λ e. subst IsAscending (sym (cond_yes (eqb a x) _ _ (eq-eqb a x e))) (without_ascending a xs p))
+    (λ n. subst IsAscending (sym (cond_no (eqb a x) _ _ (ne_eqb a x n)))
     (more (λ b h. l b (without_from a b xs h).0) (without_ascending a xs p)))
     (same_or_not a x)
 
@@ -81,7 +81,7 @@ larger_ahead cs best c h = go (ltb (size_of cs best) (size_of cs c)) refl
     go false e = let l = ltb-false (size_of cs best) (size_of cs c) e in ((omega arith, λ f. omega arith), (omega arith, λ f. omega arith))
 
 -- the largest of an ascending list is ahead of all
-pub largest_ahead : (cs : List (List ℕ)) (best : ℕ) (rest : List ℕ) → Ascending (best ∷ rest) → (c : ℕ) → Member c (best ∷ rest) → Ahead cs (largest cs best rest) c
+pub largest_ahead : (cs : List (List ℕ)) (best : ℕ) (rest : List ℕ) → IsAscending (best ∷ rest) → (c : ℕ) → Member c (best ∷ rest) → Ahead cs (largest cs best rest) c
 largest_ahead cs best [] a c h =
     ⊎_elim (λ e. let f = ap (size_of cs) e in (omega arith, λ g. omega arith)) (λ m. absurd (omega arith)) (member_cons c best [] h)
 largest_ahead cs best (d ∷ rest) (more l (more k a)) c h =

@@ -19,7 +19,7 @@ use Rattle.plan_spec.specs.Rows.{row_component, row_width, row_x, row_z, measure
 use Rattle.plan_spec.specs.Components.{support, local_mask, live_dimension, amplitudes}
 use Rattle.plan_spec.specs.Walk.{Walk, join_of, local_action, start, no_step, ignored_step, promotion_step, rotation_step, measurement_step, row_head, rotation_row, measurement_row}
 use Rattle.plan_spec.specs.Plan.{Plan, plan_from}
-use Rattle.plan_spec.specs.Connectivity.{Member, ActiveOrder, active_start, active_step, active_after, with_links, advanced, support_of, rotation_at, measurement_at, replay_joined, replay_after, longest_of, LocalBits, JoinHolds, JoinClaim, promotions_in, measurements_in}
+use Rattle.plan_spec.specs.Connectivity.{Member, ActiveOrder, active_start, active_step, active_after, with_links, advanced, support_of, rotation_at, measurement_at, replay_joined, replay_after, longest_of, AreLocalBits, JoinHolds, JoinClaim, promotions_in, measurements_in}
 use Rattle.plan_spec.proofs.Counting.{place_below, place_holds, member_at, length_remove_at}
 use Rattle.plan_spec.proofs.Steps.{Stepped, ignored, rotated, promoted, measured, recorded, detected, expected, branched, Run, done, more}
 use Rattle.plan_spec.proofs.Joins.{gathered_from, gathered_holds}
@@ -127,7 +127,7 @@ module _ (w : Walk) (r : ActiveOrder) (t : Tracked w r) (width x z : ℕ) (wide 
     z_clear = λ j h. ap (λ (n : ℕ). bit_at n j) zs ∙ local_clear z w.order members j (subst (λ (n : ℕ). n ≤ j) size h);
   }
     where
-      local : (j : ℕ) → j < length members → LocalBits r.order component x z (row_x row) (row_z row) j
+      local : (j : ℕ) → j < length members → AreLocalBits r.order component x z (row_x row) (row_z row) j
       local j h =
           let a = get_or members j 0 in
           let on = member_active a (member_at members j h) in

@@ -19,7 +19,7 @@ use Rattle.plan_spec.specs.Lists.{total, concat}
 use Rattle.plan_spec.specs.Components.{allocated_for}
 use Rattle.plan_spec.specs.Walk.{Walk, start}
 use Rattle.plan_spec.specs.Plan.{Lengths, Plan, unread, plan_from, plan_of}
-use Rattle.plan_spec.specs.Connectivity.{occurrences, Member, NoRepeats, Rearranged, greatest, ActiveOrder, active_start, active_after, Linked, live_at, moments, replay_after, replay_members, SameComponent, longest_of, JoinClaim, promotions_in, measurements_in, Connected}
+use Rattle.plan_spec.specs.Connectivity.{occurrences, Member, NoRepeats, Rearranged, greatest, ActiveOrder, active_start, active_after, Linked, live_at, moments, replay_after, replay_members, AreInOneComponent, longest_of, JoinClaim, promotions_in, measurements_in, Connected}
 use Rattle.plan_spec.proofs.Steps.{Stepped, Run, more, run_split}
 use Rattle.plan_spec.proofs.Classes.{class_linked}
 use Rattle.plan_spec.proofs.Live.{rearranged_length}
@@ -117,7 +117,7 @@ module _ (limit k dense_peak : ℕ) (is : List Instruction) (u : Walk) (run : Ru
         let c = run_count at.front in
         let s = start_order k in omega arith
 
-    same_components : (a b : ℕ) → Member a now_active.order → Member b now_active.order → SameComponent plan (replay_after plan m) a b ↔ Linked now_active.links a b
+    same_components : (a b : ℕ) → Member a now_active.order → Member b now_active.order → AreInOneComponent plan (replay_after plan m) a b ↔ Linked now_active.links a b
     unfolding plan_from
     same_components a b ma mb =
         let h = at.tracked.holds in

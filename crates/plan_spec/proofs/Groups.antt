@@ -18,8 +18,8 @@ use Rattle.plan_spec.specs.Components.{members_of}
 use Rattle.plan_spec.specs.Walk.{Walk, start}
 use Rattle.plan_spec.specs.Plan.{Lengths, Plan, groups_of, plan_from, plan_of}
 use Rattle.plan_spec.specs.Connectivity.{Member, Replayed, active_start, replay_after}
-use Rattle.plan_spec.specs.Sources.{Ascending, none, more}
-use Rattle.plan_spec.specs.Groups.{Live, group_of, group_start, group_count, group_members, live_count, live_below, GroupsListed}
+use Rattle.plan_spec.specs.Sources.{IsAscending, none, more}
+use Rattle.plan_spec.specs.Groups.{IsLive, group_of, group_start, group_count, group_members, live_count, live_below, GroupsListed}
 use Rattle.plan_spec.proofs.Counting.{member_head, member_tail, member_cons}
 use Rattle.plan_spec.proofs.Ascending.{ascending_same}
 use Rattle.plan_spec.proofs.Steps.{Run}
@@ -49,7 +49,7 @@ from_next : (b : Replayed) (n : ℕ) (m : List ℕ) (cs : List (List ℕ)) → F
 from_next b n m cs same i = ap b (omega arith) ∙ same (suc i)
 
 -- a number that is listed is that of a component with members
-number_live : (b : Replayed) (n : ℕ) (cs : List (List ℕ)) → From b n cs → (c : ℕ) → Member c (numbers_of n cs) → (n ≤ c) × Live b c
+number_live : (b : Replayed) (n : ℕ) (cs : List (List ℕ)) → From b n cs → (c : ℕ) → Member c (numbers_of n cs) → (n ≤ c) × IsLive b c
 number_live b n [] same c h = absurd (omega arith)
 number_live b n ([] ∷ cs) same c h = let r = number_live b (suc n) cs (from_next b n [] cs same) c h in (omega (arith, r.0), r.1)
 number_live b n ((a ∷ m) ∷ cs) same c h =
@@ -59,7 +59,7 @@ number_live b n ((a ∷ m) ∷ cs) same c h =
     (member_cons c n (numbers_of (suc n) cs) h)
 
 -- and that of each from n on is listed
-live_number : (b : Replayed) (n : ℕ) (cs : List (List ℕ)) → From b n cs → (c : ℕ) → n ≤ c → Live b c → Member c (numbers_of n cs)
+live_number : (b : Replayed) (n : ℕ) (cs : List (List ℕ)) → From b n cs → (c : ℕ) → n ≤ c → IsLive b c → Member c (numbers_of n cs)
 live_number b n [] same c h live =
     let e : b c ≡ [] = ap b (omega arith) ∙ same (c - n) in let l = ap length e in absurd (omega arith)
 live_number b n ([] ∷ cs) same c h live =
@@ -73,7 +73,7 @@ live_number b n ((a ∷ m) ∷ cs) same c h live =
     (λ k. member_tail c n (numbers_of (suc n) cs) (live_number b (suc n) cs (from_next b n (a ∷ m) cs same) c (omega (arith, k)) live))
     (same_or_not c n)
 
-numbers_ascend : (b : Replayed) (n : ℕ) (cs : List (List ℕ)) → From b n cs → Ascending (numbers_of n cs)
+numbers_ascend : (b : Replayed) (n : ℕ) (cs : List (List ℕ)) → From b n cs → IsAscending (numbers_of n cs)
 numbers_ascend b n [] same = none
 numbers_ascend b n ([] ∷ cs) same = numbers_ascend b (suc n) cs (from_next b n [] cs same)
 numbers_ascend b n ((a ∷ m) ∷ cs) same =
@@ -116,7 +116,7 @@ group_here words m rest i e =
 -- each component with members is read at its count of live ones below it
 component_read : (b : Replayed) (words rest : List ℕ) (n : ℕ) (cs : List (List ℕ)) → From b n cs
     → drop (group_start words (live_below b n)) words ≡ groups_of cs ++ rest
-    → (c : ℕ) → n ≤ c → Live b c → (group_count words (live_below b c) ≡ length (b c)) × (group_members words (live_below b c) ≡ b c)
+    → (c : ℕ) → n ≤ c → IsLive b c → (group_count words (live_below b c) ≡ length (b c)) × (group_members words (live_below b c) ≡ b c)
 component_read b words rest n [] same at c h live =
     let e : b c ≡ [] = ap b (omega arith) ∙ same (c - n) in let l = ap length e in absurd (omega arith)
 component_read b words rest n ([] ∷ cs) same at c h live =

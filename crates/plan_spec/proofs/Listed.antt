@@ -20,7 +20,7 @@ use Rattle.plan_spec.specs.Components.{members_of}
 use Rattle.plan_spec.specs.Walk.{Written, Walk, join_of, start, no_step, ignored_step, promotion_step, rotation_step, measurement_step, row_head, rotation_row, measurement_row}
 use Rattle.plan_spec.specs.Plan.{Lengths, Plan, plan_from, plan_of}
 use Rattle.plan_spec.specs.Connectivity.{ActiveOrder, active_start, active_after, Replayed, kind_at, rotation_at, measurement_at, listed_by, replay_after}
-use Rattle.plan_spec.specs.Sources.{Sources, Listed, NoPart, ListedClaim, RowOf, SourcesListed}
+use Rattle.plan_spec.specs.Sources.{AreSources, IsListed, HasNoPart, ListedClaim, IsRowOf, SourcesListed}
 use Rattle.plan_spec.proofs.Steps.{Stepped, ignored, rotated, promoted, measured, recorded, detected, expected, branched, Run, done, more}
 use Rattle.plan_spec.proofs.Tracking.{Tracked}
 use Rattle.plan_spec.proofs.Sources.{tracked_sources}
@@ -42,7 +42,7 @@ module _ (initial dense_peak : ℕ) (u : Walk) (rotations_of_21 : AllOf 21 u.wri
   -- a row that names the place and the number of its join's sources lists them
   row_listed : (m kind : ℕ) (row : List ℕ) (w : Walk) (r : ActiveOrder) (x z : ℕ) → Tracked w r → Follows m w → 0 < length w.order → kind_at plan m ≡ kind
       → (row_component row ≡ (join_of x z w).component) × (row_merge_offset row ≡ length w.written.merges) × (row_merge_count row ≡ length (join_of x z w).sources)
-      → Begins (w.written.merges ++ (join_of x z w).sources) u.written.merges → Listed plan m kind row r.order x z
+      → Begins (w.written.merges ++ (join_of x z w).sources) u.written.merges → IsListed plan m kind row r.order x z
   unfolding plan_from join_of
   row_listed m kind row w r x z t replay active kind_is entries e =
       let sources = (join_of x z w).sources in
@@ -52,13 +52,13 @@ module _ (initial dense_peak : ℕ) (u : Walk) (rotations_of_21 : AllOf 21 u.wri
         kind_is = kind_is;
         inside = let a = begins_length (w.written.merges ++ sources) u.written.merges e in let b = length-append w.written.merges sources in omega (arith, entries.1, entries.2);
         component = entries.0 ∙ sym (ap (λ (l : List ℕ). get_or l 0 0) listed);
-        sources = subst (λ (l : List ℕ). Sources r.order (replay_after plan m) x z l) (sym listed)
-            (subst₂ (λ (order : List ℕ) (b : Replayed). Sources order b x z sources) t.order_same (sym same) (tracked_sources w r t x z active));
+        sources = subst (λ (l : List ℕ). AreSources r.order (replay_after plan m) x z l) (sym listed)
+            (subst₂ (λ (order : List ℕ) (b : Replayed). AreSources order b x z sources) t.order_same (sym same) (tracked_sources w r t x z active));
       }
 
   -- a step of another kind names no part
   no_part : (m kind payload : ℕ) (written : List ℕ) → length written ≡ 2 * m → Begins (written ++ step_row kind payload) u.written.steps
-      → (kind ≡ 2 → ⊥) → (kind ≡ 4 → ⊥) → NoPart plan m
+      → (kind ≡ 2 → ⊥) → (kind ≡ 4 → ⊥) → HasNoPart plan m
   unfolding plan_from
   no_part m kind payload written l e two four =
       let k = seam_first written u.written.steps kind payload (2 * m) l e in (λ f. two (sym k ∙ f), λ f. four (sym k ∙ f))
@@ -184,18 +184,18 @@ listed h ws l p e wide none = accepted_listed h ws l p (accepted h ws l p (read_
 
 module _ (p q : Plan) (pads : Pads p q) (m : ℕ) (named : (j : ℕ) → j < suc m → Named p j) where
   -- a row and its part are the same, and so are the components before it
-  part_same : (kind : ℕ) (row row' order : List ℕ) (x z : ℕ) → row' ≡ row → listed_by q row' ≡ listed_by p row → Listed p m kind row order x z → Listed q m kind row' order x z
+  part_same : (kind : ℕ) (row row' order : List ℕ) (x z : ℕ) → row' ≡ row → listed_by q row' ≡ listed_by p row → IsListed p m kind row order x z → IsListed q m kind row' order x z
   part_same kind row row' order x z same part c =
       let long = zeroed_length p.merges q.merges pads.merges in
       let before = after_same p q pads m (λ j h. named j (omega arith)) in record {
         kind_is = kind_same p q pads m ∙ c.kind_is;
         inside = let i = c.inside in subst (λ (l : List ℕ). row_merge_offset l + row_merge_count l ≤ length q.merges) (sym same) (omega arith);
         component = ap row_component same ∙ c.component ∙ sym (ap (λ (l : List ℕ). get_or l 0 0) part);
-        sources = subst₂ (λ (b : Replayed) (l : List ℕ). Sources order b x z l) (sym before) (sym part) c.sources;
+        sources = subst₂ (λ (b : Replayed) (l : List ℕ). AreSources order b x z l) (sym before) (sym part) c.sources;
       }
 
   -- no part stays none
-  none_same : NoPart p m → NoPart q m
+  none_same : HasNoPart p m → HasNoPart q m
   none_same n = let k = kind_same p q pads m in (λ e. n.0 (sym k ∙ e), λ e. n.1 (sym k ∙ e))
 
   listed_same : (order : List ℕ) (i : Instruction) → ListedClaim p m order i → ListedClaim q m order i
@@ -216,7 +216,7 @@ module _ (p q : Plan) (pads : Pads p q) (m : ℕ) (named : (j : ℕ) → j < suc
   listed_same order DormantBranch c = none_same c
 
 -- a row's record is the same
-row_of_same : (p q : Plan) (records kind i : ℕ) → Pads p q → RowOf records p kind i → RowOf records q kind i
+row_of_same : (p q : Plan) (records kind i : ℕ) → Pads p q → IsRowOf records p kind i → IsRowOf records q kind i
 row_of_same p q records kind i pads r = (r.0, r.1, kind_same p q pads r.0 ∙ r.2, payload_same p q pads r.0 ∙ r.3)
 
 -- CR 3 of an accepted plan is CR 3 of its words followed by zeros

@@ -16,7 +16,7 @@ use Rattle.kernels.specs.Bits.{bit_at}
 use Rattle.plan_spec.specs.Lists.{place_of}
 use Rattle.plan_spec.specs.Components.{support, local_mask}
 use Rattle.plan_spec.specs.Connectivity.{Member, keep, support_of}
-use Rattle.plan_spec.specs.Sources.{SetBelow}
+use Rattle.plan_spec.specs.Sources.{IsSetBelow}
 use Rattle.plan_spec.proofs.Counting.{member_cons, member_head, member_tail, member_at}
 
 -- ---- local masks
@@ -108,10 +108,10 @@ pub bit_lowest : (x : ℕ) → bit_at x 0 ≡ x % 2
 bit_lowest x = omega arith
 
 -- a bit of the halves is the next one of the numbers
-set_later : (k x z p : ℕ) → SetBelow k (x / 2) (z / 2) p → SetBelow (suc k) x z (suc p)
+set_later : (k x z p : ℕ) → IsSetBelow k (x / 2) (z / 2) p → IsSetBelow (suc k) x z (suc p)
 set_later k x z p s = (omega (arith, s.0), ⊎_elim (λ b. inl (bit_half x p ∙ b)) (λ b. inr (bit_half z p ∙ b)) s.1)
 
-set_half : (k x z p : ℕ) → SetBelow (suc k) x z (suc p) → SetBelow k (x / 2) (z / 2) p
+set_half : (k x z p : ℕ) → IsSetBelow (suc k) x z (suc p) → IsSetBelow k (x / 2) (z / 2) p
 set_half k x z p s = (omega (arith, s.0), ⊎_elim (λ b. inl (sym (bit_half x p) ∙ b)) (λ b. inr (sym (bit_half z p) ∙ b)) s.1)
 
 -- a support with its first position set or not
@@ -122,7 +122,7 @@ support_odd : (x z c : ℕ) (order : List ℕ) → (x % 2 + z % 2 ≡ 0 → ⊥)
 support_odd x z c order n = ap (λ (t : Bool). cond t (support (x / 2) (z / 2) order) (c ∷ support (x / 2) (z / 2) order)) (ne_eqb (x % 2 + z % 2) 0 n)
 
 -- an entry of the support stands at a set position
-pub support_at : (x z : ℕ) (order : List ℕ) (a : ℕ) → Member a (support x z order) → (p : ℕ) × SetBelow (length order) x z p × (get_or order p 0 ≡ a)
+pub support_at : (x z : ℕ) (order : List ℕ) (a : ℕ) → Member a (support x z order) → (p : ℕ) × IsSetBelow (length order) x z p × (get_or order p 0 ≡ a)
 support_at x z [] a h = absurd (omega arith)
 support_at x z (c ∷ order) a h =
     ⊎_elim
@@ -133,7 +133,7 @@ support_at x z (c ∷ order) a h =
     (member_cons a c (support (x / 2) (z / 2) order) (subst (λ (l : List ℕ). Member a l) (support_odd x z c order n) h)))
     (same_or_not (x % 2 + z % 2) 0)
   where
-    later : ((p : ℕ) × SetBelow (length order) (x / 2) (z / 2) p × (get_or order p 0 ≡ a)) → (p : ℕ) × SetBelow (length (c ∷ order)) x z p × (get_or (c ∷ order) p 0 ≡ a)
+    later : ((p : ℕ) × IsSetBelow (length order) (x / 2) (z / 2) p × (get_or order p 0 ≡ a)) → (p : ℕ) × IsSetBelow (length (c ∷ order)) x z p × (get_or (c ∷ order) p 0 ≡ a)
     later r = (suc r.0, set_later (length order) x z r.0 r.1, r.2)
 
     odd : (x % 2 + z % 2 ≡ 0 → ⊥) → (bit_at x 0 ≡ 1) ⊎ (bit_at z 0 ≡ 1)
@@ -143,7 +143,7 @@ support_at x z (c ∷ order) a h =
         ⊎_elim (λ e. inl e) (λ m. inr (⊎_elim (λ f. f) (λ k. absurd (n (omega (arith, m, k)))) (same_or_not (bit_at z 0) 1))) (same_or_not (bit_at x 0) 1)
 
 -- and every entry at a set position is one of the support
-pub at_support : (x z : ℕ) (order : List ℕ) (p : ℕ) → SetBelow (length order) x z p → Member (get_or order p 0) (support x z order)
+pub at_support : (x z : ℕ) (order : List ℕ) (p : ℕ) → IsSetBelow (length order) x z p → Member (get_or order p 0) (support x z order)
 at_support x z [] p s = absurd (omega (arith, s.0))
 at_support x z (c ∷ order) zero s =
     let odd : x % 2 + z % 2 ≡ 0 → ⊥ = λ e. let p = bit_lowest x in let q = bit_lowest z in ⊎_elim (λ b. omega arith) (λ b. omega arith) s.1 in

@@ -21,7 +21,7 @@ use Rattle.plan_spec.specs.Lists.{total, concat}
 use Rattle.plan_spec.specs.Rows.{row_component, row_merge_offset, row_merge_count, row_width, measurement_pivot, step_row}
 use Rattle.plan_spec.specs.Walk.{Written, Walk, start, no_step, ignored_step, promotion_step, rotation_step, measurement_step}
 use Rattle.plan_spec.specs.Plan.{Lengths, Plan, plan_from}
-use Rattle.plan_spec.specs.Connectivity.{Member, NoRepeats, Rearranged, ActiveOrder, active_start, active_after, support_of, Replayed, replay_start, replay_join, kind_at, payload_at, row_at, rotation_at, measurement_at, listed_by, joined_by, replay_promotion, drop_member, changed_by, replay_joined, replay_after, replay_members, SameComponent, longest_of, JoinHolds, RotationJoin, MeasurementJoin, JoinClaim, measurements_in, Connected}
+use Rattle.plan_spec.specs.Connectivity.{Member, NoRepeats, Rearranged, ActiveOrder, active_start, active_after, support_of, Replayed, replay_start, replay_join, kind_at, payload_at, row_at, rotation_at, measurement_at, listed_by, joined_by, replay_promotion, drop_member, changed_by, replay_joined, replay_after, replay_members, AreInOneComponent, longest_of, JoinHolds, IsRotationJoin, IsMeasurementJoin, JoinClaim, measurements_in, Connected}
 use Rattle.plan_spec.proofs.Steps.{cond_yes, cond_no, Stepped, ignored, rotated, promoted, measured, recorded, detected, expected, branched, Run, done, more}
 use Rattle.plan_spec.proofs.Growth.{Grown, AllOf, AllInside, row-at, length_concat, grown_refl, grown_trans, run_grown, step_steps, run_rotations, run_measurements, run_inside, start_wide, start_inside}
 use Rattle.plan_spec.proofs.Replay.{seam_first, seam_second, seam_below}
@@ -210,7 +210,7 @@ module _ (p q : Plan) (pads : Pads p q) where
   -- ---- the same claims
 
   -- two coordinates in one component
-  same_here : (b d : Replayed) → b ≡ d → (x y : ℕ) → SameComponent q b x y → SameComponent p d x y
+  same_here : (b d : Replayed) → b ≡ d → (x y : ℕ) → AreInOneComponent q b x y → AreInOneComponent p d x y
   same_here b d e x y s = record {
     component = s.component;
     listed = let l = s.listed in let c = pads.component_count in omega arith;
@@ -219,7 +219,7 @@ module _ (p q : Plan) (pads : Pads p q) where
   }
 
   -- and back
-  same_there : (b d : Replayed) → b ≡ d → (x y : ℕ) → SameComponent p d x y → SameComponent q b x y
+  same_there : (b d : Replayed) → b ≡ d → (x y : ℕ) → AreInOneComponent p d x y → AreInOneComponent q b x y
   same_there b d e x y s = record {
     component = s.component;
     listed = let l = s.listed in let c = pads.component_count in omega arith;
@@ -236,7 +236,7 @@ module _ (p q : Plan) (pads : Pads p q) where
 
   module _ (m : ℕ) (named : (j : ℕ) → j < suc m → Named p j) (r : ActiveOrder) where
     -- of a rotation
-    rotation_claim : (width x z : ℕ) → RotationJoin p m r width x z → RotationJoin q m r width x z
+    rotation_claim : (width x z : ℕ) → IsRotationJoin p m r width x z → IsRotationJoin q m r width x z
     rotation_claim width x z c =
         let row = rotation_same m (named m (omega arith)) c.kind in record {
           kind = kind_same m ∙ c.kind;
@@ -244,7 +244,7 @@ module _ (p q : Plan) (pads : Pads p q) where
         }
 
     -- of a measurement
-    measurement_claim : (width x z pivot : ℕ) → MeasurementJoin p m r width x z pivot → MeasurementJoin q m r width x z pivot
+    measurement_claim : (width x z pivot : ℕ) → IsMeasurementJoin p m r width x z pivot → IsMeasurementJoin q m r width x z pivot
     measurement_claim width x z pivot c =
         let row = measurement_same m (named m (omega arith)) c.kind in record {
           kind = kind_same m ∙ c.kind;

@@ -22,7 +22,7 @@ use Rattle.words.proofs.Numbers.{same_or_not, length-numbers}
 use Rattle.words.proofs.Padded.{padded_length}
 use Rattle.records.specs.Record.{kind, width, x_mask, z_mask, phase, pivot, flag, measurement_of, instructions_by_kind, instruction_of, record_at, records_of, instructions_of}
 use Rattle.records.specs.Pass.{Passed, coordinates_after, record_pass}
-use Rattle.records.specs.Sound.{Sound, coordinates_through}
+use Rattle.records.specs.Sound.{IsSound, coordinates_through}
 use Rattle.records.specs.declared.Head.{Head}
 use Rattle.records.specs.declared.Instruction.{Instruction}
 use Rattle.records.specs.declared.Instruction.TheVariants.{Rotation, Promotion, RecordMeasurement, RecordDetector, Measurement, Expectation, DormantBranch}
@@ -427,7 +427,7 @@ module _ {limit : ℕ} {is : List Instruction} {u : Walk} (k : ℕ) (run : Run l
 -- ---- the records that passed
 
 -- refusal 6: a record that passed has a width of at most 62
-sound_narrow : (r : List ℕ) → Sound r → width_of (instruction_of r) ≤ 62
+sound_narrow : (r : List ℕ) → IsSound r → width_of (instruction_of r) ≤ 62
 unfolding instruction_of measurement_of
 sound_narrow r s = by_kind (kind r) refl
   where

@@ -12,7 +12,7 @@ use Rattle.plan_spec.specs.Lists.{without}
 use Rattle.plan_spec.specs.Components.{members_of, support, or_first, reached, touched, largest, sources_of}
 use Rattle.plan_spec.specs.Walk.{Walk, start, walk_from, join_of}
 use Rattle.plan_spec.specs.Connectivity.{Member, NoRepeats, ActiveOrder, active_start, Replayed}
-use Rattle.plan_spec.specs.Sources.{Touched, position, first, Ascending, Sources, JoinsListed}
+use Rattle.plan_spec.specs.Sources.{IsTouched, position, first, IsAscending, AreSources, JoinsListed}
 use Rattle.plan_spec.proofs.Counting.{one_here, member_head, member_tail, member_cons}
 use Rattle.plan_spec.proofs.Steps.{run_of_walk}
 use Rattle.plan_spec.proofs.Joins.{largest_member}
@@ -35,7 +35,7 @@ no_members (x ∷ xs) none = absurd (none x (member_head x xs))
 
 module _ (order : List ℕ) (components : Replayed) (x z c : ℕ) where
   -- a component that holds a reached coordinate is touched
-  reached_touched : (a : ℕ) → Member a (reached x z order) → Member a (components c) → Touched order components x z c
+  reached_touched : (a : ℕ) → Member a (reached x z order) → Member a (components c) → IsTouched order components x z c
   reached_touched a m held =
       ⊎_elim
       (λ e. let at = first_at order a (subst (λ (s : List ℕ). Member a (or_first order s)) e m) in
@@ -46,7 +46,7 @@ module _ (order : List ℕ) (components : Replayed) (x z c : ℕ) where
       (anchored_cases order (support x z order))
 
   -- and a touched one holds such a coordinate
-  touched_reached : Touched order components x z c → (a : ℕ) × Member a (reached x z order) × Member a (components c)
+  touched_reached : IsTouched order components x z c → (a : ℕ) × Member a (reached x z order) × Member a (components c)
   touched_reached (position p s held) =
       let m = at_support x z order p s in
       let here =
@@ -62,9 +62,9 @@ module _ (order : List ℕ) (components : Replayed) (x z c : ℕ) where
 -- ---- the sources of a join
 
 -- Touched components that are listed ascending: their sources
-touched_sources : (cs : List (List ℕ)) (order : List ℕ) (x z : ℕ) (ts : List ℕ) (c : ℕ) → Member c (sources_of cs ts) → Ascending ts → NoRepeats (sources_of cs ts)
-    → ((d : ℕ) → Member d (sources_of cs ts) → Touched order (members_of cs) x z d) → ((d : ℕ) → Touched order (members_of cs) x z d → Member d (sources_of cs ts))
-    → Sources order (members_of cs) x z (sources_of cs ts)
+touched_sources : (cs : List (List ℕ)) (order : List ℕ) (x z : ℕ) (ts : List ℕ) (c : ℕ) → Member c (sources_of cs ts) → IsAscending ts → NoRepeats (sources_of cs ts)
+    → ((d : ℕ) → Member d (sources_of cs ts) → IsTouched order (members_of cs) x z d) → ((d : ℕ) → IsTouched order (members_of cs) x z d → Member d (sources_of cs ts))
+    → AreSources order (members_of cs) x z (sources_of cs ts)
 unfolding sources_of
 touched_sources cs order x z [] c some a once from all = absurd (omega arith)
 touched_sources cs order x z (t ∷ ts) c some a once from all = record {
@@ -88,7 +88,7 @@ touched_sources cs order x z (t ∷ ts) c some a once from all = record {
     others : List ℕ
     others = without target (t ∷ ts)
 
-    ahead : (d : ℕ) → Touched order (members_of cs) x z d → Ahead cs target d
+    ahead : (d : ℕ) → IsTouched order (members_of cs) x z d → Ahead cs target d
     ahead d h =
         largest_ahead cs t ts a d
         (⊎_elim (λ e. subst (λ (k : ℕ). Member k (t ∷ ts)) (sym e) (largest_member cs t ts)) (λ m. (without_from target d (t ∷ ts) m).0) (member_cons d target others (all d h)))
@@ -111,7 +111,7 @@ walk_sources limit k is w e = tracked_sources w _ (run_tracked (active_start k) 
 
 -- ---- one list only
 
-module _ {order : List ℕ} {components : Replayed} {x z : ℕ} {l m : List ℕ} (s : Sources order components x z l) (t : Sources order components x z m) where
+module _ {order : List ℕ} {components : Replayed} {x z : ℕ} {l m : List ℕ} (s : AreSources order components x z l) (t : AreSources order components x z m) where
   -- both have the same target
   same_target : s.target ≡ t.target
   same_target =
@@ -132,7 +132,7 @@ module _ {order : List ℕ} {components : Replayed} {x z : ℕ} {l m : List ℕ}
       (member_cons c t.target t.others there)
 
 -- no other list is the sources of the same join
-pub sources_unique : {order : List ℕ} {components : Replayed} {x z : ℕ} {l m : List ℕ} → Sources order components x z l → Sources order components x z m → l ≡ m
+pub sources_unique : {order : List ℕ} {components : Replayed} {x z : ℕ} {l m : List ℕ} → AreSources order components x z l → AreSources order components x z m → l ≡ m
 sources_unique s t =
     s.parts
     ∙ ap₂ (λ (a : ℕ) (k : List ℕ). a ∷ k) (same_target s t)

@@ -11,7 +11,7 @@ use Rattle.plan_spec.specs.Lists.{place_of}
 use Rattle.plan_spec.specs.Rows.{row_width}
 use Rattle.plan_spec.specs.Walk.{Walk, join_of, local_action, start, no_step, ignored_step, promotion_step, rotation_step, measurement_step, row_head, rotation_row, measurement_row}
 use Rattle.plan_spec.specs.Connectivity.{ActiveOrder, active_start}
-use Rattle.plan_spec.specs.Laws.{Whole, RowsBelow}
+use Rattle.plan_spec.specs.Laws.{IsWholeWalk, RowsBelow}
 use Rattle.plan_spec.proofs.Counting.{member_length}
 use Rattle.plan_spec.proofs.Steps.{Stepped, ignored, rotated, promoted, measured, recorded, detected, expected, branched, Run, done, more}
 use Rattle.plan_spec.proofs.Growth.{each_more}
@@ -19,7 +19,7 @@ use Rattle.plan_spec.proofs.Joins.{gathered_from}
 use Rattle.plan_spec.proofs.Invariant.{listed_active, active_listed, source_holds}
 use Rattle.plan_spec.proofs.Tracking.{Tracked, active_of, tracked_here, target_source, rotation_action, measurement_keeps, start_tracked, run_tracked}
 
-pub tracked_whole : (w : Walk) (r : ActiveOrder) → Tracked w r → Whole w
+pub tracked_whole : (w : Walk) (r : ActiveOrder) → Tracked w r → IsWholeWalk w
 unfolding join_of
 tracked_whole w r t =
     let h = tracked_here w r t in record {
@@ -33,7 +33,7 @@ tracked_whole w r t =
     }
 
 -- in every state that the walk reaches, whatever the next record is
-pub reached_whole : {limit : ℕ} (k : ℕ) {is : List Instruction} {u : Walk} → Run limit (start k) is u → Whole u
+pub reached_whole : {limit : ℕ} (k : ℕ) {is : List Instruction} {u : Walk} → Run limit (start k) is u → IsWholeWalk u
 reached_whole k {is = is} run = let t = run_tracked (active_start k) run (start_tracked k) in tracked_whole _ _ t
 
 -- ---- rows below the limit

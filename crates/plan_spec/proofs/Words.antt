@@ -13,7 +13,7 @@ use lib.Ieee.{Float, binary64, fits, neg}
 use lib.Ieee.Bits.{of_bits-fits}
 use lib.Ieee.Fits.{neg-fits, add-fits, sub-fits, mul-fits}
 use borrow.Author.Tests.{ltb-true, ltb-false}
-use Rattle.words.specs.Words.{Words}
+use Rattle.words.specs.Words.{AreWords}
 use Rattle.words.proofs.Patches.{begins_length}
 use Rattle.words.proofs.Words.{below_each, words_append, cond_word, power_word, flag_word_lem, FloatFits, float_word}
 use Rattle.kernels.specs.Bits.{odd_ones, dimension, bit_at, without_bit, highest_bit}
@@ -34,7 +34,7 @@ use Rattle.plan_spec.specs.Components.{local_mask, allocated_for}
 use Rattle.plan_spec.specs.Walk.{Walk, join_of, local_action, pair_words, row_head, rotation_row, measurement_row, start, no_step, ignored_step, promotion_step, rotation_step, measurement_step}
 use Rattle.plan_spec.specs.Plan.{Lengths, Plan, unread, unread_plan, plan_from, max_dimension, for_dense_peak, plan_of}
 use Rattle.plan_spec.specs.Connectivity.{ActiveOrder, active_start, active_step}
-use Rattle.plan_spec.specs.Laws.{PlanWords, PlanCounts}
+use Rattle.plan_spec.specs.Laws.{HasPlanWords, HasPlanCounts}
 use Rattle.plan_spec.proofs.Counting.{member_at, place_below}
 use Rattle.plan_spec.proofs.Steps.{cond_yes, Stepped, ignored, rotated, promoted, measured, recorded, detected, expected, branched, Run, done, more}
 use Rattle.plan_spec.proofs.LocalBits.{local_below}
@@ -48,7 +48,7 @@ use Rattle.plan_spec.proofs.Sizes.{reached_longest}
 -- ---- floats that binary64 holds
 
 -- two of them
-pair_words_lem : (c : Complex64) → FloatFits c.re → FloatFits c.im → Words (pair_words c)
+pair_words_lem : (c : Complex64) → FloatFits c.re → FloatFits c.im → AreWords (pair_words c)
 pair_words_lem c p q = (float_word c.re p, (float_word c.im q, tt))
 
 -- a phase's
@@ -127,7 +127,7 @@ given_dimension P (Some n) f h = h n refl
 
 -- the first eleven words
 head_words : (component offset count size x z phase : ℕ) → component < 2 ^ 64 → offset < 2 ^ 64 → count < 2 ^ 64 → size < 64 → x < 2 ^ 64 → z < 2 ^ 64
-    → Words (row_head component offset count (action size x z phase))
+    → AreWords (row_head component offset count (action size x z phase))
 unfolding row_head
 head_words component offset count size x z phase c o n s p q =
     let unit = unit_fits (phase % 4) in
@@ -135,17 +135,17 @@ head_words component offset count size x z phase c o n s p q =
     let odd = pair_words_lem (odd_phase (phase_factor phase)) (neg-fits binary64 _ unit.0) (neg-fits binary64 _ unit.1) in
     let overlap = flag_word_lem (odd_ones (bit_and x z)) in omega arith
 
-module _ (limit component offset count size x z phase : ℕ) (head : Words (row_head component offset count (action size x z phase))) where
+module _ (limit component offset count size x z phase : ℕ) (head : AreWords (row_head component offset count (action size x z phase))) where
   -- the action
   abbrev act : ActivePauliAction
   act = action size x z phase
 
   -- a rotation's row
   rotation_words : (angle sine cosine : Float) (k : PrecomputedActivePauliRotationKernel) → FloatsFit (Rotation size x z phase angle sine cosine)
-      → rotation limit act phase angle sine cosine ≡ given k → Words (rotation_row component offset count k)
+      → rotation limit act phase angle sine cosine ≡ given k → AreWords (rotation_row component offset count k)
   unfolding rotation_row row_head highest_bit
   rotation_words angle sine cosine made floats e =
-      subst (Given (λ k. Words (rotation_row component offset count k))) e (given_dimension _ (dimension limit size) _ λ n f.
+      subst (Given (λ k. AreWords (rotation_row component offset count k))) e (given_dimension _ (dimension limit size) _ λ n f.
       let k = rotation_kernel n act phase angle sine cosine in
       let diagonal = flag_word_lem k.is_diagonal in
       let uniform = flag_word_lem k.uniform_imag_pairs in
@@ -160,7 +160,7 @@ module _ (limit component offset count size x z phase : ℕ) (head : Words (row_
 
   -- a measurement's
   measurement_words : (pivot : ℕ) (deactivated : Bool) (k : PrecomputedActivePauliMeasurementKernel) → pivot < 2 ^ 64 → z < 2 ^ 64
-      → measurement limit act phase pivot ≡ given k → Words (measurement_row component offset count k deactivated)
+      → measurement limit act phase pivot ≡ given k → AreWords (measurement_row component offset count k deactivated)
   unfolding measurement_row row_head
   measurement_words pivot deactivated made p q e =
       subst (Given Row) e (given_dimension Row (dimension limit size) _ λ n f.
@@ -172,7 +172,7 @@ module _ (limit component offset count size x z phase : ℕ) (head : Words (row_
       tt))
     where
       Row : PrecomputedActivePauliMeasurementKernel → Type 0
-      Row k = Words (measurement_row component offset count k deactivated)
+      Row k = AreWords (measurement_row component offset count k deactivated)
 
       row : (n : ℕ) → dimension limit size ≡ Some n → (diagonal : Bool) (bit rest : ℕ) → bit < 2 ^ 64 → rest < 2 ^ 64
           → Row (measurement_kernel n act pivot diagonal bit rest)
@@ -206,21 +206,21 @@ few_before {w = w} {u = u} run few =
 
 -- what was written so far is words, and binary64 holds the works
 record Worded (w : Walk) : Type 0 where
-  steps : Words w.written.steps
-  merges : Words w.written.merges
-  rotations : Words (concat w.written.rotations)
-  promotions : Words w.written.promotions
-  measurements : Words (concat w.written.measurements)
+  steps : AreWords w.written.steps
+  merges : AreWords w.written.merges
+  rotations : AreWords (concat w.written.rotations)
+  promotions : AreWords w.written.promotions
+  measurements : AreWords (concat w.written.measurements)
   dense : FloatFits w.dense_work
   component : FloatFits w.component_work
 
 -- one step more
-step_more : (kind payload : ℕ) (steps : List ℕ) → kind < 2 ^ 64 → payload < 2 ^ 64 → Words steps → Words (steps ++ step_row kind payload)
+step_more : (kind payload : ℕ) (steps : List ℕ) → kind < 2 ^ 64 → payload < 2 ^ 64 → AreWords steps → AreWords (steps ++ step_row kind payload)
 step_more kind payload steps k l p = words_append steps (step_row kind payload) p (k, (l, tt))
 
 -- one row more
-row_more : (rows : List (List ℕ)) (row : List ℕ) → Words (concat rows) → Words row → Words (concat (rows ++ (row ∷ [])))
-row_more rows row p q = subst Words (sym (concat_more rows row)) (words_append (concat rows) row p q)
+row_more : (rows : List (List ℕ)) (row : List ℕ) → AreWords (concat rows) → AreWords row → AreWords (concat (rows ++ (row ∷ [])))
+row_more rows row p q = subst AreWords (sym (concat_more rows row)) (words_append (concat rows) row p q)
 
 -- a local mask has a bit for each member
 mask_word : (mask : ℕ) (order members : List ℕ) → length members < 64 → local_mask mask order members < 2 ^ 64
@@ -228,14 +228,14 @@ mask_word mask order members size = let b = local_below mask order members in le
 
 module _ (w : Walk) (r : ActiveOrder) (t : Tracked w r) (x z : ℕ) (few : Few w) where
   -- sources are numbers of components
-  sources_words : Words (join_of x z w).sources
+  sources_words : AreWords (join_of x z w).sources
   unfolding join_of
   sources_words = below_each (join_of x z w).sources λ i h.
       let b = source_below w.components (active_of w r) (tracked_here w r t) x z _ (member_at (join_of x z w).sources i h) in omega (arith, few.components)
 
   -- the first eleven words of the join's row
   join_words : (phase : ℕ) → 0 < length w.order → length (join_of x z w).members < 64 → length (w.written.merges ++ (join_of x z w).sources) < 2 ^ 64
-      → Words (row_head (join_of x z w).component (length w.written.merges) (length (join_of x z w).sources) (local_action x z phase w (join_of x z w)))
+      → AreWords (row_head (join_of x z w).component (length w.written.merges) (length (join_of x z w).sources) (local_action x z phase w (join_of x z w)))
   join_words phase active size later =
       let target = target_below w r t x z active in
       let l = length-append w.written.merges (join_of x z w).sources in
@@ -407,7 +407,7 @@ module _ {limit initial n : ℕ} {p : Plan} (m : Made limit initial n p) where
   made_worded = run_worded (active_start m.start_size) m.run (start_tracked m.start_size) m.floats made_few (start_worded m.start_size)
 
   -- the words of its plan
-  made_words : initial < 2 ^ 64 → PlanWords (plan_from initial m.dense_peak m.last)
+  made_words : initial < 2 ^ 64 → HasPlanWords (plan_from initial m.dense_peak m.last)
   unfolding plan_from allocated_for
   made_words small =
       let w = made_worded in record {
@@ -427,7 +427,7 @@ module _ {limit initial n : ℕ} {p : Plan} (m : Made limit initial n p) where
       }
 
   -- its words in number
-  made_counts : PlanCounts n (plan_from initial m.dense_peak m.last)
+  made_counts : HasPlanCounts n (plan_from initial m.dense_peak m.last)
   unfolding plan_from
   made_counts =
       let k = m.start_size in
@@ -451,8 +451,8 @@ module _ {limit initial n : ℕ} {p : Plan} (m : Made limit initial n p) where
   made_fits = (made_worded.dense, made_worded.component)
 
 -- every word of an accepted plan is below 2 ^ 64; initial_k is copied, also where nothing is read
-pub plan_words : (h : Head) (ws : List ℕ) (l : Lengths) (p : Plan) → h.initial_k < 2 ^ 64 → plan_of h ws l ≡ completed p → PlanWords p
-plan_words h ws l p small e = let m = plan_made h ws l p e in subst PlanWords (sym m.plan_is) (made_words m small)
+pub plan_words : (h : Head) (ws : List ℕ) (l : Lengths) (p : Plan) → h.initial_k < 2 ^ 64 → plan_of h ws l ≡ completed p → HasPlanWords p
+plan_words h ws l p small e = let m = plan_made h ws l p e in subst HasPlanWords (sym m.plan_is) (made_words m small)
 
 -- and binary64 holds its works, so that they come back from their bits
 pub works_fit : (h : Head) (ws : List ℕ) (l : Lengths) (p : Plan) → plan_of h ws l ≡ completed p
@@ -462,5 +462,5 @@ works_fit h ws l p e =
     subst (λ (q : Plan). FloatFits q.dense_work × FloatFits q.component_work) (sym m.plan_is) (made_fits m)
 
 -- rows and steps are whole, and there are few of each
-pub plan_counts : (h : Head) (ws : List ℕ) (l : Lengths) (p : Plan) → plan_of h ws l ≡ completed p → PlanCounts (length ws / 8) p
-plan_counts h ws l p e = let m = plan_made h ws l p e in subst (PlanCounts (length ws / 8)) (sym m.plan_is) (made_counts m)
+pub plan_counts : (h : Head) (ws : List ℕ) (l : Lengths) (p : Plan) → plan_of h ws l ≡ completed p → HasPlanCounts (length ws / 8) p
+plan_counts h ws l p e = let m = plan_made h ws l p e in subst (HasPlanCounts (length ws / 8)) (sym m.plan_is) (made_counts m)

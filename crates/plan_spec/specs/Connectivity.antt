@@ -215,7 +215,7 @@ replay_after p (suc m) = changed_by (kind_at p m) p m (replay_joined p m (replay
 abbrev pub replay_members : Plan → Replayed → List ℕ
 replay_members p b = concat (map b (numbers_from 0 p.component_count))
 
-pub record SameComponent (p : Plan) (b : Replayed) (c d : ℕ) : Type 0 where
+pub record AreInOneComponent (p : Plan) (b : Replayed) (c d : ℕ) : Type 0 where
   pub component : ℕ
   pub listed : component < p.component_count
   pub first : Member c (b component)
@@ -233,7 +233,7 @@ abbrev pub joined_at : Plan → ℕ → (row : List ℕ) → List ℕ
 joined_at p m row = replay_joined p m (replay_after p m) (row_component row)
 
 -- member j of a bin stands at a position of the order, and the local bits j are the record's bits there
-pub record LocalBits (order component : List ℕ) (x z local_x local_z j : ℕ) : Type 0 where
+pub record AreLocalBits (order component : List ℕ) (x z local_x local_z j : ℕ) : Type 0 where
   pub position : ℕ
   pub on_order : position < length order
   pub same : get_or order position 0 ≡ get_or component j 0
@@ -248,16 +248,16 @@ joined_bin p m row = replay_joined p m (replay_after p m) (row_component row)
 pub record JoinHolds (order support component row : List ℕ) (x z : ℕ) : Type 0 where
   pub whole_support : (a : ℕ) → Member a support → Member a component
   pub local_width : length component ≡ row_width row
-  pub bits : (j : ℕ) → j < row_width row → LocalBits order component x z (row_x row) (row_z row) j
+  pub bits : (j : ℕ) → j < row_width row → AreLocalBits order component x z (row_x row) (row_z row) j
   pub x_clear : (j : ℕ) → row_width row ≤ j → bit_at (row_x row) j ≡ 0
   pub z_clear : (j : ℕ) → row_width row ≤ j → bit_at (row_z row) j ≡ 0
 
-pub record RotationJoin (p : Plan) (m : ℕ) (r : ActiveOrder) (width x z : ℕ) : Type 0 where
+pub record IsRotationJoin (p : Plan) (m : ℕ) (r : ActiveOrder) (width x z : ℕ) : Type 0 where
   pub kind : kind_at p m ≡ rotation_kind
   pub holds : JoinHolds r.order (support_of width x z r.order) (joined_at p m (rotation_at p m)) (rotation_at p m) x z
 
 -- "for a measurement its member at the local pivot is the roll's entry at the pivot"
-pub record MeasurementJoin (p : Plan) (m : ℕ) (r : ActiveOrder) (width x z pivot : ℕ) : Type 0 where
+pub record IsMeasurementJoin (p : Plan) (m : ℕ) (r : ActiveOrder) (width x z pivot : ℕ) : Type 0 where
   pub kind : kind_at p m ≡ measurement_kind
   pub holds : JoinHolds r.order (support_of width x z r.order) (joined_at p m (measurement_at p m)) (measurement_at p m) x z
   pub pivot_active : pivot < length r.order
@@ -266,8 +266,8 @@ pub record MeasurementJoin (p : Plan) (m : ℕ) (r : ActiveOrder) (width x z piv
 
 -- a rotation where nothing is active has no join
 unfoldable pub JoinClaim : Plan → ℕ → ActiveOrder → Instruction → Type 0
-JoinClaim p m r (Rotation width x z phase angle sine cosine) = (r.order ≡ []) ⊎ RotationJoin p m r width x z
-JoinClaim p m r (Measurement width x z phase pivot) = MeasurementJoin p m r width x z pivot
+JoinClaim p m r (Rotation width x z phase angle sine cosine) = (r.order ≡ []) ⊎ IsRotationJoin p m r width x z
+JoinClaim p m r (Measurement width x z phase pivot) = IsMeasurementJoin p m r width x z pivot
 JoinClaim p m r Promotion = Unit
 JoinClaim p m r RecordMeasurement = Unit
 JoinClaim p m r RecordDetector = Unit
@@ -302,7 +302,7 @@ pub record Connected (k : ℕ) (is : List Instruction) (p : Plan) (m : ℕ) : Ty
   pub count : length (replay_members p (replay_after p m)) + total (map measurements_in (take m is)) ≡ k + total (map promotions_in (take m is))
   pub same_component :
       (a b : ℕ) → Member a (active_after (active_start k) (take m is)).order → Member b (active_after (active_start k) (take m is)).order
-      → SameComponent p (replay_after p m) a b ↔ Linked (active_after (active_start k) (take m is)).links a b
+      → AreInOneComponent p (replay_after p m) a b ↔ Linked (active_after (active_start k) (take m is)).links a b
   pub joins : m < length is → JoinClaim p m (active_after (active_start k) (take m is)) (get_or is m DormantBranch)
   pub gathered : (r : ActiveOrder) → Memᴰ r (active_start k ∷ moments (active_start k) is) → Gathers r
   pub peak : p.peak ≡ greatest (map live_at (active_start k ∷ moments (active_start k) is))

@@ -3,11 +3,11 @@
 use Rattle.std.specs.Prelude.{ℕ, zero, suc, ◌+◌, ◌≤◌, ◌<◌, ◌≡◌, ◌↔◌, List, [], ◌∷◌, ◌++◌, map, length, get_or, take, drop, replicate}
 use Rattle.plan_spec.specs.Lists.{concat}
 use Rattle.plan_spec.specs.Connectivity.{Member, Replayed}
-use Rattle.plan_spec.specs.Sources.{Ascending}
+use Rattle.plan_spec.specs.Sources.{IsAscending}
 
 -- "final live components": those that have members
-abbrev pub Live : Replayed → ℕ → Type 0
-Live components c = 0 < length (components c)
+abbrev pub IsLive : Replayed → ℕ → Type 0
+IsLive components c = 0 < length (components c)
 
 -- "each a member count and its members in order"
 abbrev pub group_of : List ℕ → List ℕ
@@ -44,10 +44,10 @@ live_below components (suc c) = live_below components c + live_count (components
 pub record GroupsListed (components : Replayed) (zeros : ℕ) (words : List ℕ) : Type 0 where
   -- the numbers by which groups come: of each component that has members, of no other, and strictly ascending, so each once
   pub numbers : List ℕ
-  pub live : (c : ℕ) → Member c numbers ↔ Live components c
-  pub ascending : Ascending numbers
+  pub live : (c : ℕ) → Member c numbers ↔ IsLive components c
+  pub ascending : IsAscending numbers
   pub listed : words ≡ concat (map (λ c. group_of (components c)) numbers) ++ replicate zeros 0
   -- so group i, as it is read, is live component i, counted by number; and behind the last there is none
-  pub counted : (c : ℕ) → Live components c → group_count words (live_below components c) ≡ length (components c)
-  pub same : (c : ℕ) → Live components c → group_members words (live_below components c) ≡ components c
+  pub counted : (c : ℕ) → IsLive components c → group_count words (live_below components c) ≡ length (components c)
+  pub same : (c : ℕ) → IsLive components c → group_members words (live_below components c) ≡ components c
   pub ends : (i : ℕ) → length numbers ≤ i → group_count words i ≡ 0

@@ -5,7 +5,7 @@ use Rattle.std.specs.Prelude.{ℕ, ◌+◌, ◌*◌, ◌%◌, ◌^◌, ◌≤◌
 use Rattle.std.specs.Float.{inf, fin, binary64}
 use Rattle.std.specs.Float.Ieee.{of_int, to_bits}
 use Rattle.std.specs.Float.Ieee.Exact.{HasValue}
-use Rattle.words.specs.Words.{bits_word, Words}
+use Rattle.words.specs.Words.{bits_word, AreWords}
 use Rattle.kernels.specs.Bits.{dimension}
 use Rattle.records.specs.Pass.{most_coordinates}
 use Rattle.records.specs.declared.Head.{Head}
@@ -18,14 +18,14 @@ use Rattle.plan_spec.specs.Plan.{group_words, most_ceiling, Plan, Lengths}
 use Rattle.plan_spec.specs.Connectivity.{Member, active_start, active_after, replay_after, replay_joined}
 
 -- neither a NaN nor negative; 0 is +0
-pub data NonNegative : Float → Type 0 where
-  infinite : NonNegative (inf Bool.false)
-  number : (m : ℕ) (e : ℤ) → NonNegative (fin Bool.false m e)
+pub data IsNonNegative : Float → Type 0 where
+  infinite : IsNonNegative (inf Bool.false)
+  number : (m : ℕ) (e : ℤ) → IsNonNegative (fin Bool.false m e)
 
 -- the two works that the choice of section 6 compares
 pub record NonNegativeWorks (w : Walk) : Type 0 where
-  pub dense : NonNegative w.dense_work
-  pub component : NonNegative w.component_work
+  pub dense : IsNonNegative w.dense_work
+  pub component : IsNonNegative w.component_work
 
 -- 02, CR 1: "The float works must equal these numbers wherever they are given": the work is the number's float, as a float and as bits, and it has the number's
 -- very value, so that nothing was rounded
@@ -48,7 +48,7 @@ pub record TooWideExactly (initial : ℕ) (is : List Instruction) (works : Whole
 -- What the Rust guards against and 01 gives no number: a state where any of these fails is never met. An active coordinate has a number that was given out
 -- (the Rust's "invalid active coordinate") and stands in a component ("active coordinate without a component"); a component's members, joined or not, are
 -- active ("tried to remap an inactive coordinate"); every source of a join, the target too, has members ("source is inactive", "target is inactive").
-pub record Whole (w : Walk) : Type 0 where
+pub record IsWholeWalk (w : Walk) : Type 0 where
   pub coordinate_valid : (a : ℕ) → Member a w.order → a < length w.components
   pub coordinate_held : (a : ℕ) → Member a w.order → (c : ℕ) × (c < length w.components) × Member a (members_of w.components c)
   pub member_active : (a c : ℕ) → Member a (members_of w.components c) → Member a w.order
@@ -83,13 +83,13 @@ pub record FitsIn (p : Plan) (l : Lengths) : Type 0 where
   pub groups : length p.groups ≤ l.groups
 
 -- every word of a plan's first six outputs and of its scalar fields, the works as bits
-pub record PlanWords (p : Plan) : Type 0 where
-  pub steps : Words p.steps
-  pub merges : Words p.merges
-  pub sizes : Words p.sizes
-  pub rotations : Words p.rotations
-  pub promotions : Words p.promotions
-  pub measurements : Words p.measurements
+pub record HasPlanWords (p : Plan) : Type 0 where
+  pub steps : AreWords p.steps
+  pub merges : AreWords p.merges
+  pub sizes : AreWords p.sizes
+  pub rotations : AreWords p.rotations
+  pub promotions : AreWords p.promotions
+  pub measurements : AreWords p.measurements
   pub initial_components : p.initial_components < 2 ^ 64
   pub component_count : p.component_count < 2 ^ 64
   pub dense_work : bits_word p.dense_work < 2 ^ 64
@@ -99,7 +99,7 @@ pub record PlanWords (p : Plan) : Type 0 where
   pub allocated : p.allocated < 2 ^ 64
 
 -- 02, CR 2: what reading asks of the counts holds of every plan, steps and rows being whole; and so many words are stored at most, of n records and of any
-pub record PlanCounts (n : ℕ) (p : Plan) : Type 0 where
+pub record HasPlanCounts (n : ℕ) (p : Plan) : Type 0 where
   pub steps : length p.steps % step_words ≡ 0
   pub sizes : length p.sizes ≡ p.component_count
   pub rotations : length p.rotations % rotation_words ≡ 0

@@ -13,69 +13,69 @@ use Rattle.plan_spec.specs.Connectivity.{Member, NoRepeats, active_start, active
 -- ---- the sources of a join
 
 -- "the active positions below k set in x or z"; k, "the active width before an instruction", is the length of the order
-abbrev pub SetBelow : (width x z position : ℕ) → Type 0
-SetBelow k x z p = (p < k) × ((bit_at x p ≡ 1) ⊎ (bit_at z p ≡ 1))
+abbrev pub IsSetBelow : (width x z position : ℕ) → Type 0
+IsSetBelow k x z p = (p < k) × ((bit_at x p ≡ 1) ⊎ (bit_at z p ≡ 1))
 
 -- "Touched: components of the active positions below k set in x or z; if none, the component of the first active coordinate"
-pub data Touched (order : List ℕ) (components : Replayed) (x z c : ℕ) : Type 0 where
-  position : (p : ℕ) → SetBelow (length order) x z p → Member (get_or order p 0) (components c) → Touched order components x z c
-  first : ((p : ℕ) → SetBelow (length order) x z p → ⊥) → 0 < length order → Member (get_or order 0 0) (components c) → Touched order components x z c
+pub data IsTouched (order : List ℕ) (components : Replayed) (x z c : ℕ) : Type 0 where
+  position : (p : ℕ) → IsSetBelow (length order) x z p → Member (get_or order p 0) (components c) → IsTouched order components x z c
+  first : ((p : ℕ) → IsSetBelow (length order) x z p → ⊥) → 0 < length order → Member (get_or order 0 0) (components c) → IsTouched order components x z c
 
 -- "Target: the largest touched, smallest number on a tie"
-pub record Target (order : List ℕ) (components : Replayed) (x z target : ℕ) : Type 0 where
-  pub touched : Touched order components x z target
-  pub largest : (c : ℕ) → Touched order components x z c → length (components c) ≤ length (components target)
-  pub smallest : (c : ℕ) → Touched order components x z c → length (components c) ≡ length (components target) → target ≤ c
+pub record IsTarget (order : List ℕ) (components : Replayed) (x z target : ℕ) : Type 0 where
+  pub touched : IsTouched order components x z target
+  pub largest : (c : ℕ) → IsTouched order components x z c → length (components c) ≤ length (components target)
+  pub smallest : (c : ℕ) → IsTouched order components x z c → length (components c) ≡ length (components target) → target ≤ c
 
 -- "strictly ascending": each entry is below all that stand after it
-pub data Ascending : List ℕ → Type 0 where
-  none : Ascending []
-  more : {a : ℕ} {xs : List ℕ} → ((b : ℕ) → Member b xs → a < b) → Ascending xs → Ascending (a ∷ xs)
+pub data IsAscending : List ℕ → Type 0 where
+  none : IsAscending []
+  more : {a : ℕ} {xs : List ℕ} → ((b : ℕ) → Member b xs → a < b) → IsAscending xs → IsAscending (a ∷ xs)
 
 -- "after the target stand all other touched components, each once, strictly ascending, and nothing else". `Sources.sources_unique`: one list only is that
-pub record Sources (order : List ℕ) (components : Replayed) (x z : ℕ) (listed : List ℕ) : Type 0 where
+pub record AreSources (order : List ℕ) (components : Replayed) (x z : ℕ) (listed : List ℕ) : Type 0 where
   pub target : ℕ
   pub others : List ℕ
   pub parts : listed ≡ target ∷ others
-  pub chosen : Target order components x z target
-  pub all : (c : ℕ) → Touched order components x z c → Member c listed
+  pub chosen : IsTarget order components x z target
+  pub all : (c : ℕ) → IsTouched order components x z c → Member c listed
   pub once : NoRepeats listed
-  pub ascending : Ascending others
-  pub nothing_else : (c : ℕ) → Member c listed → Touched order components x z c
+  pub ascending : IsAscending others
+  pub nothing_else : (c : ℕ) → Member c listed → IsTouched order components x z c
 
 -- the sources of the join that any masks make in this state of the walk
 abbrev pub JoinsListed : Walk → Type 0
-JoinsListed w = (x z : ℕ) → 0 < length w.order → Sources w.order (members_of w.components) x z (join_of x z w).sources
+JoinsListed w = (x z : ℕ) → 0 < length w.order → AreSources w.order (members_of w.components) x z (join_of x z w).sources
 
 -- ---- the rows of a plan
 
 -- the row of record m's join: its part lies inside the merge list and is the join's sources, of which the first is the row's component
-pub record Listed (p : Plan) (m kind : ℕ) (row order : List ℕ) (x z : ℕ) : Type 0 where
+pub record IsListed (p : Plan) (m kind : ℕ) (row order : List ℕ) (x z : ℕ) : Type 0 where
   pub kind_is : kind_at p m ≡ kind
   pub inside : row_merge_offset row + row_merge_count row ≤ length p.merges
   pub component : row_component row ≡ get_or (listed_by p row) 0 0
-  pub sources : Sources order (replay_after p m) x z (listed_by p row)
+  pub sources : AreSources order (replay_after p m) x z (listed_by p row)
 
 -- step m names no row that has a part of the merge list
-abbrev pub NoPart : Plan → ℕ → Type 0
-NoPart p m = (kind_at p m ≡ rotation_kind → ⊥) × (kind_at p m ≡ measurement_kind → ⊥)
+abbrev pub HasNoPart : Plan → ℕ → Type 0
+HasNoPart p m = (kind_at p m ≡ rotation_kind → ⊥) × (kind_at p m ≡ measurement_kind → ⊥)
 
 -- record m, with the order before it: a rotation where coordinates are active and a flag-0 measurement join, and no other record does
 unfoldable pub ListedClaim : Plan → ℕ → List ℕ → Instruction → Type 0
-ListedClaim p m order (Rotation width x z phase angle sine cosine) = ((order ≡ []) × NoPart p m) ⊎ Listed p m rotation_kind (rotation_at p m) order x z
-ListedClaim p m order (Measurement width x z phase pivot) = Listed p m measurement_kind (measurement_at p m) order x z
-ListedClaim p m order Promotion = NoPart p m
-ListedClaim p m order RecordMeasurement = NoPart p m
-ListedClaim p m order RecordDetector = NoPart p m
-ListedClaim p m order Expectation = NoPart p m
-ListedClaim p m order DormantBranch = NoPart p m
+ListedClaim p m order (Rotation width x z phase angle sine cosine) = ((order ≡ []) × HasNoPart p m) ⊎ IsListed p m rotation_kind (rotation_at p m) order x z
+ListedClaim p m order (Measurement width x z phase pivot) = IsListed p m measurement_kind (measurement_at p m) order x z
+ListedClaim p m order Promotion = HasNoPart p m
+ListedClaim p m order RecordMeasurement = HasNoPart p m
+ListedClaim p m order RecordDetector = HasNoPart p m
+ListedClaim p m order Expectation = HasNoPart p m
+ListedClaim p m order DormantBranch = HasNoPart p m
 
 -- row i of a kind is that of a record
-abbrev pub RowOf : (records : ℕ) → Plan → (kind i : ℕ) → Type 0
-RowOf records p kind i = (m : ℕ) × (m < records) × (kind_at p m ≡ kind) × (payload_at p m ≡ i)
+abbrev pub IsRowOf : (records : ℕ) → Plan → (kind i : ℕ) → Type 0
+IsRowOf records p kind i = (m : ℕ) × (m < records) × (kind_at p m ≡ kind) × (payload_at p m ≡ i)
 
 -- CR 3 of a plan of so many rotation rows and measurement rows: each join's row lists its sources, and each row is that of a join
 pub record SourcesListed (k : ℕ) (is : List Instruction) (p : Plan) (rotations measurements : ℕ) : Type 0 where
   pub joins : (m : ℕ) → m < length is → ListedClaim p m (active_after (active_start k) (take m is)).order (get_or is m DormantBranch)
-  pub rotation : (i : ℕ) → i < rotations → RowOf (length is) p rotation_kind i
-  pub measurement : (i : ℕ) → i < measurements → RowOf (length is) p measurement_kind i
+  pub rotation : (i : ℕ) → i < rotations → IsRowOf (length is) p rotation_kind i
+  pub measurement : (i : ℕ) → i < measurements → IsRowOf (length is) p measurement_kind i

@@ -19,7 +19,7 @@ use borrow.Author.Tests.{ltb-false, eqb-true}
 use Rattle.records.specs.declared.Instruction.{Instruction}
 use Rattle.records.specs.Record.{word_of, kind, width, phase, angle, sine, cosine, flag, record_at, records_of, instruction_of, instructions_of}
 use Rattle.records.specs.Pass.{Checked, Passed, one, minus_one, within, within_one, action_number, floats_number, sums_to_one, squares_number, or_else, rotation_number, promotion_number, measurement_number, numbers_by_kind, number_of, coordinates_after, refused_or, pass_from, record_pass}
-use Rattle.records.specs.Sound.{InUnitRange, SoundAction, SoundRotation, SoundMeasurement, Sound, coordinates_through, PassNumber, Refusal}
+use Rattle.records.specs.Sound.{IsInUnitRange, IsSoundAction, IsSoundRotation, IsSoundMeasurement, IsSound, coordinates_through, IsPassNumber, IsPassRefusal}
 use Rattle.records.proofs.Words.{records_length, records-at}
 use Rattle.records.proofs.Pairs.{pair_sound}
 use Rattle.records.proofs.Steps.{pass_start, cond-true, cond-false, room}
@@ -37,7 +37,7 @@ unfolding or_else
 both_zero zero n e = (refl, e)
 both_zero (suc m) n e = absurd (suc-ne-zero m e)
 
-action_sound : (r : List ℕ) → action_number r ≡ 0 → SoundAction r
+action_sound : (r : List ℕ) → action_number r ≡ 0 → IsSoundAction r
 unfolding action_number
 action_sound r e =
     let w = cond-false (ltb 62 (width r)) 5 (cond (ltb 3 (phase r)) 7 0) e in
@@ -56,13 +56,13 @@ above_no_nan nan t = t
 above_no_nan (inf s) t = tt
 above_no_nan (fin s m e) t = tt
 
-range_sound : (x : Float) → T (within_one x) → InUnitRange x
+range_sound : (x : Float) → T (within_one x) → IsInUnitRange x
 unfolding within_one within
 range_sound x t =
     let a = and_l (le minus_one x) (le x one) t in
     record { no_nan = above_no_nan x a; from = a; to = and_r (le minus_one x) (le x one) t }
 
-rotation_sound : (r : List ℕ) → rotation_number r ≡ 0 → SoundRotation r
+rotation_sound : (r : List ℕ) → rotation_number r ≡ 0 → IsSoundRotation r
 unfolding rotation_number floats_number squares_number
 rotation_sound r e =
     let n = both_zero (action_number r) (or_else (floats_number r) (squares_number r)) e in
@@ -82,7 +82,7 @@ rotation_sound r e =
           (subst T (sym (cond-true (sums_to_one (sine r) (cosine r)) 24 f.1)) tt);
     }
 
-measurement_sound : (r : List ℕ) → measurement_number r ≡ 0 → SoundMeasurement r
+measurement_sound : (r : List ℕ) → measurement_number r ≡ 0 → IsSoundMeasurement r
 unfolding measurement_number
 measurement_sound r e =
     record {
@@ -90,7 +90,7 @@ measurement_sound r e =
       action = λ f. action_sound r (rw f at e);
     }
 
-number_sound : (c : ℕ) (r : List ℕ) → number_of c r ≡ 0 → Sound r
+number_sound : (c : ℕ) (r : List ℕ) → number_of c r ≡ 0 → IsSound r
 unfolding number_of
 number_sound c r e =
     record {
@@ -106,7 +106,7 @@ unfolding refused_or
 first_passed zero i rest e = (refl, e)
 first_passed (suc n) i rest e = let z : ◌≡◌ {A = ℕ} 0 1 = cc in absurd (suc-ne-zero 0 (sym z))
 
-sound_from : (rs : List (List ℕ)) (i c : ℕ) → pass_from i c rs ≡ Passed → (j : ℕ) (d : List ℕ) → j < length rs → Sound (get_or rs j d)
+sound_from : (rs : List (List ℕ)) (i c : ℕ) → pass_from i c rs ≡ Passed → (j : ℕ) (d : List ℕ) → j < length rs → IsSound (get_or rs j d)
 unfolding pass_from
 sound_from [] i c e j d h = absurd (not-suc-le-zero h)
 sound_from (r ∷ rs) i c e zero d h = number_sound c r (first_passed (number_of c r) i (pass_from (suc i) (coordinates_after c r) rs) e).0
@@ -114,7 +114,7 @@ sound_from (r ∷ rs) i c e (suc j) d h =
     sound_from rs (suc i) (coordinates_after c r) (first_passed (number_of c r) i (pass_from (suc i) (coordinates_after c r) rs) e).1 j d (le_of_suc-le-suc h)
 
 -- each record of words that pass is sound
-pub passed_sound : (k : ℕ) (ws : List ℕ) → record_pass k ws ≡ Passed → (i : ℕ) → i < length ws / 8 → Sound (record_at ws i)
+pub passed_sound : (k : ℕ) (ws : List ℕ) → record_pass k ws ≡ Passed → (i : ℕ) → i < length ws / 8 → IsSound (record_at ws i)
 passed_sound k ws e i h =
     rw (records-at ws i [] h) at (sound_from (records_of ws) 0 k (sym (pass_start k ws) ∙ e) i [] (rw records_length h))
 
@@ -140,14 +140,14 @@ passed_coordinates k ws h e n = bounded_from (records_of ws) 0 k (sym (pass_star
 
 -- ---- the floats of a rotation that passes, by their bits
 
-no_nan_at : (r : List ℕ) → SoundRotation r → (j : ℕ) → j < 3 → T (not (is_nan (of_bits binary64 (word_of r (5 + j)))))
+no_nan_at : (r : List ℕ) → IsSoundRotation r → (j : ℕ) → j < 3 → T (not (is_nan (of_bits binary64 (word_of r (5 + j)))))
 no_nan_at r s zero h = finite_no_nan (angle r) s.angle_finite
 no_nan_at r s (suc zero) h = s.sine_range.no_nan
 no_nan_at r s (suc (suc zero)) h = s.cosine_range.no_nan
 no_nan_at r s (suc (suc (suc j))) h = absurd (omega arith)
 
 -- angle (j 0), sine (1) and cosine (2) have their words as their bits
-pub rotation_bits : (r : List ℕ) → SoundRotation r → (j : ℕ) → j < 3 → word_of r (5 + j) < 2 ^ 64 → to_bits binary64 (of_bits binary64 (word_of r (5 + j))) ≡ word_of r (5 + j)
+pub rotation_bits : (r : List ℕ) → IsSoundRotation r → (j : ℕ) → j < 3 → word_of r (5 + j) < 2 ^ 64 → to_bits binary64 (of_bits binary64 (word_of r (5 + j))) ≡ word_of r (5 + j)
 rotation_bits r s j h w = to_bits-of_bits binary64 (word_of r (5 + j)) w (no_nan_at r s j h)
 
 -- ---- the instructions
@@ -209,10 +209,10 @@ number_allowed c r =
     )
     tt
 
-range : (n : ℕ) → T (allowed n) → (n ≡ 0 → ⊥) → PassNumber n
+range : (n : ℕ) → T (allowed n) → (n ≡ 0 → ⊥) → IsPassNumber n
 range n t h = go (eqb n 0) refl (leb 5 n && leb n 10) refl t
   where
-    go : (b : Bool) → eqb n 0 ≡ b → (d : Bool) → (leb 5 n && leb n 10) ≡ d → T (b || (d || eqb n 25)) → PassNumber n
+    go : (b : Bool) → eqb n 0 ≡ b → (d : Bool) → (leb 5 n && leb n 10) ≡ d → T (b || (d || eqb n 25)) → IsPassNumber n
     go true e d f t = absurd (h (eqb-true n 0 e))
     go false e true f t =
         let u : T (leb 5 n && leb n 10) = subst T (sym f) tt in
@@ -225,21 +225,21 @@ unfolding refused_or
 which zero i rest m j e = inr e
 which (suc n) i rest m j e = inl ((cc), (cc), suc-ne-zero n)
 
-refused_from : (rs : List (List ℕ)) (i c m j : ℕ) → pass_from i c rs ≡ refused_at m j → PassNumber m × (j < i + length rs)
+refused_from : (rs : List (List ℕ)) (i c m j : ℕ) → pass_from i c rs ≡ refused_at m j → IsPassNumber m × (j < i + length rs)
 unfolding pass_from
 refused_from [] i c m j e = let z : ◌≡◌ {A = ℕ} 0 1 = cc in absurd (suc-ne-zero 0 (sym z))
 refused_from (r ∷ rs) i c m j e = go (which (number_of c r) i (pass_from (suc i) (coordinates_after c r) rs) m j e) (refused_from rs (suc i) (coordinates_after c r) m j)
   where
     go : ((m ≡ number_of c r) × (j ≡ i) × (number_of c r ≡ 0 → ⊥)) ⊎ (pass_from (suc i) (coordinates_after c r) rs ≡ refused_at m j)
-        → (pass_from (suc i) (coordinates_after c r) rs ≡ refused_at m j → PassNumber m × (j < suc i + length rs))
-        → PassNumber m × (j < i + suc (length rs))
-    go (inl f) later = (subst PassNumber (sym f.0) (range (number_of c r) (number_allowed c r) f.2), omega (arith, f.1))
+        → (pass_from (suc i) (coordinates_after c r) rs ≡ refused_at m j → IsPassNumber m × (j < suc i + length rs))
+        → IsPassNumber m × (j < i + suc (length rs))
+    go (inl f) later = (subst IsPassNumber (sym f.0) (range (number_of c r) (number_allowed c r) f.2), omega (arith, f.1))
     go (inr g) later =
         let b = later g in
         (b.0, omega (arith, b.1))
 
 -- a refusal has a number 5 to 10 or 25 and a record of the words
-pub refused_in : (k : ℕ) (ws : List ℕ) (n i : ℕ) → record_pass k ws ≡ refused_at n i → Refusal ws n i
+pub refused_in : (k : ℕ) (ws : List ℕ) (n i : ℕ) → record_pass k ws ≡ refused_at n i → IsPassRefusal ws n i
 refused_in k ws n i e =
     let b = refused_from (records_of ws) 0 k n i (sym (pass_start k ws) ∙ e) in
     record { number_of_pass = b.0; index_below = omega (arith, b.1, records_length ws) }

@@ -10,7 +10,7 @@ use lib.IntN.{pos, negsuc}
 use lib.Ieee.{Float, nan, inf, fin, binary64, up, down, add, mul, eq, le, fits}
 use lib.Ieee.Fits.{and_l, and_r, up_pos}
 use Rattle.records.specs.Pass.{within, square_sum, sums_to_one, least_sum, most_sum}
-use Rattle.records.specs.Sound.{is_zero, UnitPair}
+use Rattle.records.specs.Sound.{is_zero, IsUnitPair}
 
 abbrev zero_of : Bool → Float
 zero_of s = fin s 0 (pos 0)
@@ -52,7 +52,7 @@ not_both s c s_fits c_fits one = go (is_zero s && is_zero c) refl
         let t : T (is_zero s && is_zero c) = subst T (sym e) tt in
         subst T (zeros_fail s c s_fits c_fits (and_l (is_zero s) (is_zero c) t) (and_r (is_zero s) (is_zero c) t)) one
 
-pub pair_sound : (s c : Float) → T (fits binary64 s) → T (fits binary64 c) → T (sums_to_one s c) → UnitPair s c
+pub pair_sound : (s c : Float) → T (fits binary64 s) → T (fits binary64 c) → T (sums_to_one s c) → IsUnitPair s c
 unfolding sums_to_one within
 pair_sound s c s_fits c_fits one =
     record {

@@ -12,7 +12,7 @@ use Rattle.words.proofs.Numbers.{same_or_not}
 use Rattle.plan_spec.specs.Lists.{without}
 use Rattle.plan_spec.specs.Components.{size_of, largest, sources_of}
 use Rattle.plan_spec.specs.Connectivity.{Member}
-use Rattle.plan_spec.specs.Sources.{Ascending, none, more}
+use Rattle.plan_spec.specs.Sources.{IsAscending, none, more}
 use Rattle.plan_spec.proofs.Steps.{cond_yes, cond_no}
 use Rattle.plan_spec.proofs.Counting.{member_head, member_tail, member_cons}
 use Rattle.plan_spec.proofs.Joins.{largest_member}
@@ -103,7 +103,7 @@ ascending_holds (suc n) (d ∷ ds) c small k h =
     (λ e. member_tail c least others (ascending_holds n (without least (d ∷ ds)) c fewer (omega arith) (without_holds least c (d ∷ ds) h e)))
     (same_or_not c least)
 
-pub ascending_ascending : (n : ℕ) (l : List ℕ) → Numbers l → Ascending (ascending n l)
+pub ascending_ascending : (n : ℕ) (l : List ℕ) → Numbers l → IsAscending (ascending n l)
 ascending_ascending zero l small = none
 ascending_ascending (suc n) [] small = none
 ascending_ascending (suc n) (d ∷ ds) small =
@@ -155,7 +155,7 @@ ahead_rank cs t c small h =
 
 -- Numbers that are picked in any order, some of them more than once, and the same numbers listed in ascending order: the sources are the same, where the sizes
 -- agree.
-pub sources_are : (size : List ℕ) (cs : List (List ℕ)) (found listed : List ℕ) → Ascending listed → 0 < length listed
+pub sources_are : (size : List ℕ) (cs : List (List ℕ)) (found listed : List ℕ) → IsAscending listed → 0 < length listed
     → ((c : ℕ) → Member c listed → (c < 65535) × (get_or size c 0 ≡ size_of cs c))
     → ((c : ℕ) → Member c found → Member c listed) → ((c : ℕ) → Member c listed → Member c found)
     → sources_in size found ≡ sources_of cs listed

@@ -8,7 +8,7 @@ use Rattle.stored_plan.specs.Stored.{kept_of, scalars_of, file_of}
 use Rattle.stored_plan.specs.Reading.{trailer_word, counts_of}
 use Rattle.plan_buffers.specs.SixOutputs.{Outputs, word_counts_of}
 use Rattle.stored_plan.specs.Loading.{Loads, loaded, outcome_of}
-use Rattle.stored_plan.specs.Laws.{LongEnough}
+use Rattle.stored_plan.specs.Laws.{IsLongEnough}
 use Rattle.refusals.specs.declared.Reason.{Reason}
 use Rattle.stored_plan.specs.declared.StoredPlan.{StoredPlan}
 
@@ -31,5 +31,5 @@ pub record Written (p : Plan) (filed : List ℕ) (n : ℕ) : Type 0 where
   pub returned : n ≡ length (file_of p)
   pub trailer : trailer_word (take n filed) 14 ≡ n
   pub back : (before after : Outputs) (r : Answered StoredPlan Reason)
-      → LongEnough p (word_counts_of before) → Loads (take n filed) before after r
+      → IsLongEnough p (word_counts_of before) → Loads (take n filed) before after r
       → GivesBack p before after r

@@ -11,7 +11,7 @@ use lib.Ieee.{Float, binary64, fits, of_bits}
 use lib.Ieee.Bits.{of_bits-to_bits}
 use Rattle.refusals.specs.Answer.{completed, given}
 use borrow.Author.Tests.{eq-eqb, le-ltb}
-use Rattle.words.specs.Words.{flag_word, bits_word, Words}
+use Rattle.words.specs.Words.{flag_word, bits_word, AreWords}
 use Rattle.words.proofs.Words.{words_append, flag_word_lem}
 use Rattle.words.proofs.Bytes.{length_bytes}
 use Rattle.records.specs.declared.Head.{Head}
@@ -22,7 +22,7 @@ use Rattle.plan_buffers.specs.declared.WordCounts.{WordCounts}
 use Rattle.plan_buffers.specs.SixOutputs.{outputs_short}
 use Rattle.stored_plan.specs.Stored.{Kept, kept_of, scalars_of, sections_of, trailer_of, words_of, file_of}
 use Rattle.stored_plan.specs.Reading.{trailer_word, counts_of, odd_counts, counts_refused, read_file}
-use Rattle.stored_plan.specs.Laws.{LongEnough, SamePlan}
+use Rattle.stored_plan.specs.Laws.{IsLongEnough, IsSamePlan}
 use Rattle.stored_plan.specs.Loading.{number_of}
 use Rattle.stored_plan.proofs.Accepting.{accepted}
 use Rattle.stored_plan.proofs.RoundTrip.{read_back, restored_same}
@@ -59,12 +59,12 @@ module _ (h : Head) (ws : List ℕ) (l : Lengths) (p : Plan) (small : h.initial_
 
   -- ---- words
 
-  scalar_words_lem : Words (scalars_of p)
+  scalar_words_lem : AreWords (scalars_of p)
   scalar_words_lem =
       let w = plan_words h ws l p small e in
       (flag_word_lem p.selected, (w.initial_components, (w.component_count, (w.dense_work, (w.component_work, (w.dense_peak, (w.peak, (w.allocated, tt))))))))
 
-  section_words : Words (concat (sections_of (kept_of p)))
+  section_words : AreWords (concat (sections_of (kept_of p)))
   section_words =
       let w = plan_words h ws l p small e in
       words_append p.steps _ w.steps
@@ -75,7 +75,7 @@ module _ (h : Head) (ws : List ℕ) (l : Lengths) (p : Plan) (small : h.initial_
       (words_append p.measurements _ w.measurements
       (words_append (scalars_of p) [] scalar_words_lem tt))))))
 
-  trailer_words : Words (trailer_of (sections_of (kept_of p)))
+  trailer_words : AreWords (trailer_of (sections_of (kept_of p)))
   trailer_words =
       let c = (plan_counts h ws l p e).few in
       let s = sections_length (kept_of p) in
@@ -83,7 +83,7 @@ module _ (h : Head) (ws : List ℕ) (l : Lengths) (p : Plan) (small : h.initial_
 
   -- ---- counts
 
-  whole_counts : (lent : WordCounts) → LongEnough p lent → counts_refused lent (kept_of p) ≡ false
+  whole_counts : (lent : WordCounts) → IsLongEnough p lent → counts_refused lent (kept_of p) ≡ false
   whole_counts lent long =
       let c = plan_counts h ws l p e in
       let odd : odd_counts (counts_of (kept_of p)) p.component_count ≡ false =
@@ -99,14 +99,14 @@ module _ (h : Head) (ws : List ℕ) (l : Lengths) (p : Plan) (small : h.initial_
       ap₂ (λ (a b : Bool). a || b) odd short
 
   -- every written file passes all checks, and "reading a written plan restores these fields and every row"
-  pub plan_restored : (lent : WordCounts) → LongEnough p lent → read_file (file_of p) lent ≡ given (kept_of p)
+  pub plan_restored : (lent : WordCounts) → IsLongEnough p lent → read_file (file_of p) lent ≡ given (kept_of p)
   plan_restored lent long = read_back (kept_of p) (words_append (concat (sections_of (kept_of p))) (trailer_of (sections_of (kept_of p))) section_words trailer_words) lent (whole_counts lent long)
 
   -- the length in the trailer is the file's
   pub own_length : trailer_word (file_of p) 14 ≡ length (file_of p)
   own_length =
       let lent = counts_of (kept_of p) in
-      let long : LongEnough p lent = record { steps = omega arith; merges = omega arith; sizes = omega arith; rotations = omega arith; promotions = omega arith; measurements = omega arith } in
+      let long : IsLongEnough p lent = record { steps = omega arith; merges = omega arith; sizes = omega arith; rotations = omega arith; promotions = omega arith; measurements = omega arith } in
       (accepted (file_of p) lent (ap number_of (plan_restored lent long))).is_whole.length_word
 
 -- ---- plans with the same file
@@ -122,7 +122,7 @@ float_same x y f g e = sym (of_bits-to_bits binary64 x f) ∙ ap (of_bits binary
 
 -- what is kept is the same, and so are the fields
 kept_same : (p q : Plan) → T (fits binary64 p.dense_work) × T (fits binary64 p.component_work) → T (fits binary64 q.dense_work) × T (fits binary64 q.component_work)
-    → kept_of p ≡ kept_of q → SamePlan p q
+    → kept_of p ≡ kept_of q → IsSamePlan p q
 kept_same p q f g e =
     let word : (i : ℕ) → get_or (scalars_of p) i 0 ≡ get_or (scalars_of q) i 0 = λ i. ap (λ (k : Kept). get_or k.scalars i 0) e in record {
       selected = flag_same p.selected q.selected (word 0);
@@ -144,7 +144,7 @@ kept_same p q f g e =
 -- plans with the same file have the same fields and rows
 pub same_file : (h : Head) (ws : List ℕ) (l : Lengths) (p : Plan) → h.initial_k < 2 ^ 64 → plan_of h ws l ≡ completed p
     → (h' : Head) (ws' : List ℕ) (l' : Lengths) (q : Plan) → h'.initial_k < 2 ^ 64 → plan_of h' ws' l' ≡ completed q
-    → file_of p ≡ file_of q → SamePlan p q
+    → file_of p ≡ file_of q → IsSamePlan p q
 same_file h ws l p small e h' ws' l' q small' e' same =
     let lent : WordCounts = record {
       steps = length p.steps + length q.steps;

@@ -13,7 +13,7 @@ use lib.Seq.{take_at, drop_at, take_all, drop-drop, get_or-append-add}
 use borrow.Author.Tests.{eqb-true, eq-eqb, le-ltb}
 use Rattle.refusals.specs.Answer.{given}
 use Rattle.words.specs.Lists.{numbers_from}
-use Rattle.words.specs.Words.{Words, Bytes}
+use Rattle.words.specs.Words.{AreWords, AreBytes}
 use Rattle.words.specs.File.{word_bytes, word_at, words_at}
 use Rattle.words.proofs.Bytes.{length_bytes, length_words, words_are}
 use Rattle.words.proofs.Back.{word_back, words_back, file_back}
@@ -55,7 +55,7 @@ touch_pointers at end (s ∷ ss) e =
     ap₂ (λ (a b : Bool). a && b) (eq-eqb at at refl) (touch_pointers (at + length s) end ss (omega arith))
 
 -- and are read from where they were written
-sections_back : (ws rest : List ℕ) (at : ℕ) (ss : List (List ℕ)) → Words ws → drop at ws ≡ concat ss ++ rest → at + length (concat ss) ≤ length ws
+sections_back : (ws rest : List ℕ) (at : ℕ) (ss : List (List ℕ)) → AreWords ws → drop at ws ≡ concat ss ++ rest → at + length (concat ss) ≤ length ws
     → sections_at (word_bytes ws) (pointers_from at ss) ≡ ss
 sections_back ws rest at [] all e room = refl
 sections_back ws rest at (s ∷ ss) all e room =
@@ -67,7 +67,7 @@ sections_back ws rest at (s ∷ ss) all e room =
     sym (drop-drop (length s) at ws) ∙ ap (drop (length s)) here ∙ drop_at s (concat ss ++ rest) (length s) refl in
     ap₂ (λ (a : List ℕ) (b : List (List ℕ)). a ∷ b) first (sections_back ws rest (at + length s) ss all later (omega arith))
 
-module _ (k : Kept) (all : Words (words_of k)) where
+module _ (k : Kept) (all : AreWords (words_of k)) where
   abbrev ss : List (List ℕ)
   ss = sections_of k
 
@@ -167,7 +167,7 @@ pub restored_same : (k j : Kept) → given k ≡ given j → k ≡ j
 restored_same k j e = cc
 
 -- a file that is read is the file of what it gives back, so that no plan has two files
-pub file_is : (file : List ℕ) (lent : WordCounts) (k : Kept) → Bytes file → read_file file lent ≡ given k → bytes_of k ≡ file
+pub file_is : (file : List ℕ) (lent : WordCounts) (k : Kept) → AreBytes file → read_file file lent ≡ given k → bytes_of k ≡ file
 file_is file lent k bytes e =
     let a = accepted file lent (ap number_of e) in
     let same = restored_same (kept_in file) k (sym a.read ∙ e) in

@@ -4,7 +4,7 @@ use Rattle.plan_spec.specs.Plan.{Plan}
 use Rattle.plan_buffers.specs.declared.WordCounts.{WordCounts}
 
 -- outputs of these lengths have room for a plan's first six outputs
-pub record LongEnough (p : Plan) (lent : WordCounts) : Type 0 where
+pub record IsLongEnough (p : Plan) (lent : WordCounts) : Type 0 where
   pub steps : length p.steps ≤ lent.steps
   pub merges : length p.merges ≤ lent.merges
   pub sizes : length p.sizes ≤ lent.sizes
@@ -13,7 +13,7 @@ pub record LongEnough (p : Plan) (lent : WordCounts) : Type 0 where
   pub measurements : length p.measurements ≤ lent.measurements
 
 -- two plans have "these fields and every row" in common: the eight scalar fields, works as floats, and the first six outputs
-pub record SamePlan (p q : Plan) : Type 0 where
+pub record IsSamePlan (p q : Plan) : Type 0 where
   pub selected : p.selected ≡ q.selected
   pub initial_components : p.initial_components ≡ q.initial_components
   pub component_count : p.component_count ≡ q.component_count

@@ -10,23 +10,23 @@ use lib.Pow.{pow_mono}
 use lib.Ieee.{Float, binary64, fits}
 use lib.Ieee.Bits.{to_bits-lt}
 use mir.Val.{bool_byte}
-use Rattle.words.specs.Words.{AllBelow, Words, flag_word, flag_in, bits_word}
+use Rattle.words.specs.Words.{AreBelow, AreWords, flag_word, flag_in, bits_word}
 
 -- ---- lists
 
 -- a list whose entries stand below n
-pub below_each : {n : ℕ} (xs : List ℕ) → ((i : ℕ) → i < length xs → get_or xs i 0 < n) → AllBelow n xs
+pub below_each : {n : ℕ} (xs : List ℕ) → ((i : ℕ) → i < length xs → get_or xs i 0 < n) → AreBelow n xs
 below_each [] h = tt
 below_each (x ∷ xs) h = (h zero (omega arith), below_each xs (λ i g. h (suc i) (omega arith)))
 
 -- and each of them
-pub below_at : {n : ℕ} (xs : List ℕ) (i : ℕ) → AllBelow n xs → i < length xs → get_or xs i 0 < n
+pub below_at : {n : ℕ} (xs : List ℕ) (i : ℕ) → AreBelow n xs → i < length xs → get_or xs i 0 < n
 below_at [] i all h = absurd (omega arith)
 below_at (x ∷ xs) zero all h = all.0
 below_at (x ∷ xs) (suc i) all h = below_at xs i all.1 (omega arith)
 
 -- words behind words
-pub words_append : (xs ys : List ℕ) → Words xs → Words ys → Words (xs ++ ys)
+pub words_append : (xs ys : List ℕ) → AreWords xs → AreWords ys → AreWords (xs ++ ys)
 words_append [] ys p q = q
 words_append (x ∷ xs) ys p q = (p.0, words_append xs ys p.1 q)
 

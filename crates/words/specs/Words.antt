@@ -4,17 +4,17 @@ use Rattle.std.specs.Float.{binary64}
 use Rattle.std.specs.Float.Ieee.{to_bits}
 
 -- every entry stands below n
-abbrev pub AllBelow : ℕ → List ℕ → Type 0
-AllBelow n [] = Unit
-AllBelow n (w ∷ ws) = (w < n) × AllBelow n ws
+abbrev pub AreBelow : ℕ → List ℕ → Type 0
+AreBelow n [] = Unit
+AreBelow n (w ∷ ws) = (w < n) × AreBelow n ws
 
 -- every entry is a word of 64 bits
-abbrev pub Words : List ℕ → Type 0
-Words ws = AllBelow (2 ^ 64) ws
+abbrev pub AreWords : List ℕ → Type 0
+AreWords ws = AreBelow (2 ^ 64) ws
 
 -- every entry is a byte
-abbrev pub Bytes : List ℕ → Type 0
-Bytes bs = AllBelow 256 bs
+abbrev pub AreBytes : List ℕ → Type 0
+AreBytes bs = AreBelow 256 bs
 
 -- a flag's word, 0 or 1
 abbrev pub flag_word : Bool → ℕ
