@@ -32,15 +32,6 @@ use Rattle.component_plan.proofs.Refusals.{lent_words, lent_few, lent_room, lent
 
 module _ (h : Head) (dense_peak : ℕ) (ws : List ℕ) (before : Buffers) (lent : 0 ≡ lent_number h.initial_k (length ws) (buffers_refused (length ws / 8) (lengths_of before)))
     (passed : record_pass h.initial_k ws ≡ Passed) where
-  -- the walk may begin
-  pub walkable : Walkable h.initial_k ws before
-  walkable = record {
-    initial_small = lent_initial h ws (lengths_of before) dense_peak 0 lent refl;
-    whole = lent_words h ws (lengths_of before) dense_peak 0 lent refl;
-    room = lent_room h ws (lengths_of before) dense_peak 0 lent refl;
-    passed = passed;
-  }
-
   -- and decides
   pub read_walk : plan_read h ws (lengths_of before) dense_peak ≡ after_walk h.initial_k dense_peak (walk_from h.ceiling 0 (start h.initial_k) (instructions_of ws))
   read_walk = lent_passed h ws (lengths_of before) dense_peak 0 lent refl Passed passed

@@ -193,20 +193,6 @@ pub away : (result : Result) (number index : ℕ) → refused_at number index �
 away (completed p) number index e = let z : ◌≡◌ {A = ℕ} 0 1 = cc in absurd (omega arith)
 away (refused_at n i) number index e = let same : n ≡ number = cc in let at : i ≡ index = cc in ap₂ refused_at same at
 
--- and a plan's is a plan's
-stays : (result : Result) (x : ActiveComponentPlan) → outcome_of (Ok x) ≡ outcome_in result → (p : Plan) × (result ≡ completed p)
-stays (completed p) x e = (p, refl)
-stays (refused_at n i) x e = let z : ◌≡◌ {A = ℕ} 0 1 = cc in absurd (omega arith)
-
-pub planned_answers : (h : Head) (ws : List ℕ) (before after : Buffers) (r : Answered ActiveComponentPlan Refusal)
-    → Filled (plan_of h ws (lengths_of before)) before after r → is_err r ≡ false → Answers h ws before after r
-planned_answers h ws before after (Ok x) f e =
-    let plan = stays (plan_of h ws (lengths_of before)) x f.answer in record {
-      answer = f.answer;
-      held = subst (λ (y : Result). Held y before after) (sym plan.1) (f.held plan.0 plan.1);
-    }
-planned_answers h ws before after (Err refusal) f e = let z : ◌≡◌ {A = ℕ} 0 1 = cc in absurd (omega arith)
-
 pub refused_answers : (h : Head) (ws : List ℕ) (before between after : Buffers) (r : Answered ActiveComponentPlan Refusal)
     → Filled (plan_of h ws (lengths_of before)) before between r → is_err r ≡ true → SameLengths before between
     → after ≡ padded_buffers (lengths_of between) no_words → Answers h ws before after r

@@ -24,18 +24,6 @@ ones_in_width (suc d) n h =
     ap (λ (x : ℕ). n % 2 + x) (ones_in_width d (n / 2) (shr_lt d 1 (subst (λ (k : ℕ). n < 2 ^ k) (omega arith) h)))
     ∙ sym (ones_step n)
 
--- a word that is not 0 has its highest bit at 63 minus its leading zeros: it is at least that power of two and below the next
-pub highest_bounds : (x : ℕ) → 0 < x → x < 2 ^ 64 → (2 ^ highest_bit x ≤ x) × (x < 2 ^ suc (highest_bit x))
-unfolding highest_bit
-highest_bounds x p h =
-    let t = leading_top 64 x p h in
-    let place : 63 - count_leading_zeros 64 x ≡ t.0 = omega (arith, t.1) in
-    (subst (λ (j : ℕ). 2 ^ j ≤ x) (sym place) t.2, subst (λ (j : ℕ). x < 2 ^ suc j) (sym place) t.3)
-
--- so it has fewer than 64 leading zeros
-pub leading_below : (x : ℕ) → 0 < x → x < 2 ^ 64 → count_leading_zeros 64 x ≤ 63
-leading_below x p h = let t = leading_top 64 x p h in omega (arith, t.1)
-
 -- a number of d digits has no bit at a place from d on
 pub bit_past : (d x p : ℕ) → x < 2 ^ d → d ≤ p → bit_at x p ≡ 0
 bit_past d x p h l = ap (λ (y : ℕ). y % 2) (div-eq_of_lt (lt_of_lt_of_le h (pow_mono l)))
@@ -48,9 +36,6 @@ no_bit_from x p h l = bit_past 64 x p h l
 -- a bit that is set is at a place below the word's width, and its power is at most the word
 pub bit_below : (d x p : ℕ) → x < 2 ^ d → (bit_at x p ≡ 0 → ⊥) → p < d
 bit_below d x p h set = lt_of_not-le (λ (l : d ≤ p). set (bit_past d x p h l))
-
-pub bit_power : (x p : ℕ) → (bit_at x p ≡ 0 → ⊥) → 2 ^ p ≤ x
-bit_power x p set = le_of_suc-le-suc (lt_of_not-le (λ (l : x < 2 ^ p). set (ap (λ (y : ℕ). y % 2) (div-eq_of_lt l))))
 
 -- a power of two has one digit more than its exponent
 size_pow : (j : ℕ) → size (2 ^ j) ≡ suc j

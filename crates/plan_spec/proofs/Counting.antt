@@ -185,11 +185,3 @@ numbers_bounds a b (suc n) h =
     (λ e. (omega arith, omega arith))
     (λ m. let r = numbers_bounds a (suc b) n m in (omega (arith, r.0), omega (arith, r.1)))
     (member_cons a b (numbers_from (suc b) n) h)
-
-pub numbers_member : (a b n : ℕ) → b ≤ a → a < b + n → Member a (numbers_from b n)
-numbers_member a b zero l h = absurd (omega arith)
-numbers_member a b (suc n) l h =
-    ⊎_elim
-    (λ e. subst (λ (k : ℕ). 0 < k) (sym (one_here a b (numbers_from (suc b) n) e)) (omega arith))
-    (λ ne. member_tail a b (numbers_from (suc b) n) (numbers_member a (suc b) n (omega (arith, ne)) (omega arith)))
-    (same_or_not a b)

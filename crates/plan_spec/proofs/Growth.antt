@@ -255,10 +255,6 @@ run_appended (more s r) = appended_then (step_appended s) (run_appended r)
 
 -- ---- the laws of a run
 
--- outputs only grow, in a step
-pub step_grown : {limit : ℕ} {w v : Walk} {i : Instruction} → Stepped limit w i v → Grown w.written v.written
-step_grown s = (step_appended s).grown
-
 -- and in a run
 pub run_grown : {limit : ℕ} {w u : Walk} {is : List Instruction} → Run limit w is u → Grown w.written u.written
 run_grown r = (run_appended r).grown

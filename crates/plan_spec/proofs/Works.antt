@@ -17,12 +17,6 @@ use Rattle.plan_spec.proofs.Steps.{Stepped, ignored, rotated, promoted, measured
 
 -- ---- the operations
 
--- no NaN
-pub nonneg_number : {x : Float} → IsNonNegative x → is_nan x ≡ false
-unfolding is_nan
-nonneg_number infinite = refl
-nonneg_number (number m e) = refl
-
 -- `odd` keeps the sign
 odd_nonneg : (d q k l : ℕ) → IsNonNegative (odd d false q k l)
 unfolding odd

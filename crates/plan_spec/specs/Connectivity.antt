@@ -240,10 +240,6 @@ pub record AreLocalBits (order component : List ℕ) (x z local_x local_z j : �
   pub x_bit : bit_at local_x j ≡ bit_at x position
   pub z_bit : bit_at local_z j ≡ bit_at z position
 
--- the bin of a row, just after the row's join
-abbrev pub joined_bin : Plan → ℕ → List ℕ → List ℕ
-joined_bin p m row = replay_joined p m (replay_after p m) (row_component row)
-
 -- "Just after a join, with the roll still as before the record": the row's bin
 pub record JoinHolds (order support component row : List ℕ) (x z : ℕ) : Type 0 where
   pub whole_support : (a : ℕ) → Member a support → Member a component

@@ -56,11 +56,6 @@ pub record IsWholeWalk (w : Walk) : Type 0 where
   pub source_live : (x z c : ℕ) → Member c (join_of x z w).sources → (c < length w.components) × (0 < size_of w.components c)
   pub target_given : (x z : ℕ) → 0 < length w.order → Member (join_of x z w).component (join_of x z w).sources
 
--- every row's component had fewer members than the limit when it was joined
-pub record RowsBelow (limit : ℕ) (o : Written) : Type 0 where
-  pub rotation : (i : ℕ) → i < length o.rotations → row_width (get_or o.rotations i []) < limit
-  pub measurement : (i : ℕ) → i < length o.measurements → row_width (get_or o.measurements i []) < limit
-
 -- what the outputs of a plan take, with n records: never more than refusal 3 asks for, and a peak that a word holds
 pub record Fits (p : Plan) (n : ℕ) : Type 0 where
   pub steps : length p.steps ≤ step_words * n

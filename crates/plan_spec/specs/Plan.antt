@@ -48,11 +48,6 @@ pub record Plan : Type 0 where
 abbrev pub Result : Type 0
 Result = Outcome Plan
 
--- what the lent buffer of one output holds afterwards: "no plan, all seven outputs zero" after a refusal
-abbrev pub held_after : (long : ℕ) → (Plan → List ℕ) → Result → List ℕ
-held_after n output (completed p) = padded n (output p)
-held_after n output (refused_at number index) = padded n []
-
 -- ---- section 6
 
 -- "at least 4" instructions; the float nearest to 1.8, 8192 and 1.25

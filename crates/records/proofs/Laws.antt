@@ -44,12 +44,6 @@ action_sound r e =
     let p = cond-false (ltb 3 (phase r)) 6 0 w.1 in
     record { width_small = ltb-false 62 (width r) w.0; phase_small = ltb-false 3 (phase r) p.0 }
 
-finite_no_nan : (x : Float) → T (finite x) → T (not (is_nan x))
-unfolding is_nan
-finite_no_nan nan t = t
-finite_no_nan (inf s) t = tt
-finite_no_nan (fin s m e) t = tt
-
 above_no_nan : (x : Float) → T (le minus_one x) → T (not (is_nan x))
 unfolding is_nan le
 above_no_nan nan t = t
@@ -137,18 +131,6 @@ bounded_from (r ∷ rs) i c e h (suc n) =
 -- words that pass make no more than 512 coordinates, after any number n of their records
 pub passed_coordinates : (k : ℕ) (ws : List ℕ) → k ≤ 512 → record_pass k ws ≡ Passed → (n : ℕ) → coordinates_through k (take n (records_of ws)) ≤ 512
 passed_coordinates k ws h e n = bounded_from (records_of ws) 0 k (sym (pass_start k ws) ∙ e) h n
-
--- ---- the floats of a rotation that passes, by their bits
-
-no_nan_at : (r : List ℕ) → IsSoundRotation r → (j : ℕ) → j < 3 → T (not (is_nan (of_bits binary64 (word_of r (5 + j)))))
-no_nan_at r s zero h = finite_no_nan (angle r) s.angle_finite
-no_nan_at r s (suc zero) h = s.sine_range.no_nan
-no_nan_at r s (suc (suc zero)) h = s.cosine_range.no_nan
-no_nan_at r s (suc (suc (suc j))) h = absurd (omega arith)
-
--- angle (j 0), sine (1) and cosine (2) have their words as their bits
-pub rotation_bits : (r : List ℕ) → IsSoundRotation r → (j : ℕ) → j < 3 → word_of r (5 + j) < 2 ^ 64 → to_bits binary64 (of_bits binary64 (word_of r (5 + j))) ≡ word_of r (5 + j)
-rotation_bits r s j h w = to_bits-of_bits binary64 (word_of r (5 + j)) w (no_nan_at r s j h)
 
 -- ---- the instructions
 

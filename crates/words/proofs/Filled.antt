@@ -15,20 +15,6 @@ use Rattle.words.proofs.Numbers.{same_or_not, length-numbers, numbers_at}
 abbrev pub Filled : {A : Type 0} → (ℕ → A) → ℕ → ℕ → List A → Type 0
 Filled f n i ys = (length ys ≡ n) × ((j : ℕ) → j < i → get_or ys j (f 0) ≡ f j)
 
--- none yet
-pub filled_none : {A : Type 0} (f : ℕ → A) (xs : List A) → Filled f (length xs) 0 xs
-filled_none f xs = (refl, λ j h. absurd (omega arith))
-
--- one more
-pub filled_next : {A : Type 0} (f : ℕ → A) (n i : ℕ) (ys : List A) → i < n → Filled f n i ys → Filled f n (suc i) (set ys i (f i))
-filled_next f n i ys l filled = (
-  length-set ys i (f i) ∙ filled.0,
-  λ j h. ⊎_elim
-      (λ e. subst (λ (k : ℕ). get_or (set ys i (f i)) k (f 0) ≡ f k) (sym e) (get_or-set_same ys i (f i) (f 0) (let long = filled.0 in omega arith)))
-      (λ other. get_or-set_other ys i j (f i) (f 0) other ∙ filled.1 j (omega (arith, other)))
-      (same_or_not j i),
-)
-
 -- all
 pub filled_all : {A : Type 0} (f : ℕ → A) (n : ℕ) (ys : List A) → Filled f n n ys → ys ≡ map f (numbers_from 0 n)
 filled_all f n ys filled = ext_get_or (f 0) ys (map f (numbers_from 0 n)) (filled.0 ∙ sym (length-map (numbers_from 0 n) f ∙ length-numbers 0 n)) (λ j h.

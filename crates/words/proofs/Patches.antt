@@ -61,19 +61,6 @@ part_of_patch at n ws xs l h =
 pub patch_none : (at : ℕ) (xs : List ℕ) → patch at [] xs ≡ xs
 patch_none at xs = ap (λ (k : ℕ). take at xs ++ drop k xs) (add-zero at) ∙ take-append-drop at xs
 
--- words written into the part of a list that begins at a place: the part is the rest of the list, and it comes back whole
-pub part_written : (at n : ℕ) (ws xs ys : List ℕ) → length ws ≡ n → ys ≡ ws ++ drop n (take (length xs - at) (drop at xs)) → put_mid at (length xs - at) xs ys ≡ patch at ws xs
-part_written at n ws xs ys l e =
-    let rest = length-drop at xs in
-    let whole = take_all (length xs - at) (drop at xs) (omega arith) in
-    let none = drop_of_length-le (drop at xs) {i = length xs - at} (omega arith) in
-    ap (λ (r : List ℕ). take at xs ++ (r ++ drop (length xs - at) (drop at xs))) e
-    ∙ ap (λ (r : List ℕ). take at xs ++ ((ws ++ drop n (take (length xs - at) (drop at xs))) ++ r)) none
-    ∙ ap (λ (r : List ℕ). take at xs ++ r) (append-nil (ws ++ drop n (take (length xs - at) (drop at xs))))
-    ∙ ap (λ (r : List ℕ). take at xs ++ (ws ++ drop n r)) whole
-    ∙ ap (λ (r : List ℕ). take at xs ++ (ws ++ r)) (drop-drop n at xs)
-    ∙ ap (λ (k : ℕ). take at xs ++ (ws ++ drop (at + k) xs)) (sym l)
-
 -- ---- words in front
 
 -- a list begins as itself
