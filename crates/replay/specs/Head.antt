@@ -1,6 +1,7 @@
 -- What is asked of a vector's first twelve words.
-use Rattle.std.specs.Prelude.{ℕ, ◌≤◌, ◌<◌, List, get_or}
+use Rattle.std.specs.Prelude.{ℕ, Bool, List, nat_lt}
+use Rattle.std.specs.List.{list_any}
 
--- the number of record words and the seven buffer lengths are no longer than the program's arrays
-pub record HasRoom (head : List ℕ) : Type 0 where
-  pub room : (k : ℕ) → 4 ≤ k → k < 12 → get_or head k 0 ≤ 4096
+-- whether one of the number of record words and the seven buffer lengths is more than 4096
+abbrev pub too_long : List ℕ → Bool
+too_long lengths = list_any (nat_lt 4096) lengths

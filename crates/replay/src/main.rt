@@ -3,42 +3,61 @@
 //! and describes them.
 #![tactic(auto)]
 
-ghost use Rattle.std.specs.Prelude.{OnOk};
-ghost use Rattle.replay.specs.Head.{HasRoom};
+ghost use Rattle.std.specs.Prelude.{◌≡◌, length, IfOk};
+ghost use Rattle.midvokt.specs.Reply.{Replies};
+ghost use Rattle.vectors.specs.Reading.{Reads};
+ghost use Rattle.vectors.specs.Replaying.{Replays};
+ghost use Rattle.replay.specs.Head.{too_long};
+ghost use Rattle.replay.specs.Vector.{head_of, lengths_in, buffers_of, sevens, answer_in, buffers_in, recorded_in, head_in, agreement};
 
 use midvokt::midvokt_plan;
 use std::alloc::{AllocError, Global};
 use std::io;
-use std::io::{BufReader, Read};
-use vectors::{ReplayError, Vector, buffer_agrees, holds, read_word, read_words, replay_vectors};
+use vectors::{
+    Flaw, ReplayError, Vector, buffer_agrees, holds, read_word, read_words, replay_vectors,
+};
 
 // The most words that the records or a buffer may have.
 const LONGEST: u64 = 4096;
 
-// Refuses a head by which the records or a buffer are too long.
-// Kept: the head is an array: it is read in one loop, and its last eight words are held to the limit in another; a struct of
-// twelve fields would need both written out, field by field.
-fn check_lengths(head: &[u64; 12]) -> Result<(), ReplayError>
-    ensures { OnOk result (HasRoom head.now) }
+// Whether a length of the records or a buffer is too long.
+fn too_long(lengths: &[u64]) -> bool
+    ensures { result ≡ too_long lengths.now }
 {
-    for length in &head[4..] {
+    for length in lengths {
         if LONGEST < *length {
-            return Err(ReplayError::TooLong);
+            return true;
         }
     }
-    Ok(())
+    false
+}
+
+// Reads the twelve words of a head.
+#[tactic(auto, unfolding(crate::specs::Vector::head_in))]
+fn read_head(words: &[u64]) -> Result<(&[u64], &[u64]), Flaw>
+    ensures head { Reads (λ x. (x.0.now, x.1.now)) result (head_in words.now) }
+    ensures twelve { IfOk result (λ x. length x.0.now ≡ 12) }
+{
+    let (head, rest) = read_words(words, 12)?;
+    if too_long(&head[4..]) {
+        Err(Flaw::TooLong)
+    } else {
+        Ok((head, rest))
+    }
 }
 
 // Reads the number and the words that the call should give, and compares.
-fn answer_agrees(
-    alloc: Global,
-    input: &mut impl Read,
+#[tactic(auto, unfolding(crate::specs::Vector::answer_in))]
+fn answer_agrees<'a>(
     number: u64,
     reply: &[u64; 14],
-) -> Result<bool, ReplayError> {
-    let expected_number = read_word(input)?;
-    let expected = read_words(alloc, input, 14)?;
-    Ok(holds(reply, &expected) && number == expected_number)
+    words: &'a [u64],
+) -> Result<(bool, &'a [u64]), Flaw>
+    ensures { Reads (λ x. (x.0, x.1.now)) result (answer_in number reply.now words.now) }
+{
+    let (recorded, rest) = read_word(words)?;
+    let (expected, rest) = read_words(rest, 14)?;
+    Ok((number == recorded && holds(reply, expected), rest))
 }
 
 // The seven buffers of a plan.
@@ -55,7 +74,10 @@ struct Buffers {
 
 impl Buffers {
     // Buffers of the lengths that the head gives, with no zero in them.
-    fn new(alloc: Global, head: &[u64; 12]) -> Result<Buffers, AllocError> {
+    fn new(alloc: Global, head: &[u64]) -> Result<Buffers, AllocError>
+        requires { length head.now ≡ 12 }
+        ensures { IfOk result (λ buffers. buffers_of buffers ≡ sevens (lengths_in head.now)) }
+    {
         Ok(Buffers {
             steps: vec![in alloc; 7u64; head[5] as usize]?,
             merges: vec![in alloc; 7u64; head[6] as usize]?,
@@ -68,7 +90,10 @@ impl Buffers {
     }
 
     // Plans a program into the buffers; the number of the answer.
-    fn plan(&mut self, head: &[u64; 12], records: &[u64], reply: &mut [u64; 14]) -> u64 {
+    fn plan(&mut self, head: &[u64], records: &[u64], reply: &mut [u64; 14]) -> u64
+        requires { length head.now ≡ 12 }
+        ensures { Replies (head_of head.now) records.now (buffers_of self.old) (buffers_of self.new) reply.old reply.new result }
+    {
         midvokt_plan(
             head[0],
             head[1],
@@ -87,36 +112,48 @@ impl Buffers {
     }
 
     // Reads what each buffer should hold, and compares every word.
-    fn agree(&self, alloc: Global, input: &mut impl Read) -> Result<bool, ReplayError> {
-        let mut agrees = true;
-        for buffer in [
-            &self.steps,
-            &self.merges,
-            &self.sizes,
-            &self.rotations,
-            &self.promotions,
-            &self.measurements,
-            &self.groups,
-        ] {
-            agrees &= buffer_agrees(alloc, input, buffer)?;
-        }
-        Ok(agrees)
+    #[tactic(auto, unfolding(crate::specs::Vector::buffers_in))]
+    fn agree<'a>(&self, words: &'a [u64]) -> Result<(bool, &'a [u64]), Flaw>
+        ensures { Reads (λ x. (x.0, x.1.now)) result (buffers_in (buffers_of self.now) words.now) }
+    {
+        let (steps, rest) = buffer_agrees(&self.steps, words)?;
+        let (merges, rest) = buffer_agrees(&self.merges, rest)?;
+        let (sizes, rest) = buffer_agrees(&self.sizes, rest)?;
+        let (rotations, rest) = buffer_agrees(&self.rotations, rest)?;
+        let (promotions, rest) = buffer_agrees(&self.promotions, rest)?;
+        let (measurements, rest) = buffer_agrees(&self.measurements, rest)?;
+        let (groups, rest) = buffer_agrees(&self.groups, rest)?;
+        let agrees = steps & merges & sizes & rotations & promotions & measurements & groups;
+        Ok((agrees, rest))
+    }
+
+    // Reads the answer and the buffers that the call should give, and compares.
+    #[tactic(auto, unfolding(crate::specs::Vector::recorded_in))]
+    fn recorded<'a>(
+        &self,
+        number: u64,
+        reply: &[u64; 14],
+        words: &'a [u64],
+    ) -> Result<(bool, &'a [u64]), Flaw>
+        ensures { Reads (λ x. (x.0, x.1.now)) result (recorded_in number reply.now (buffers_of self.now) words.now) }
+    {
+        let (answer, rest) = answer_agrees(number, reply, words)?;
+        let (held, rest) = self.agree(rest)?;
+        Ok((answer & held, rest))
     }
 }
 
 // Reads the next vector and replays it; whether it agrees.
-fn replay_next(alloc: Global, input: &mut impl Read) -> Result<bool, ReplayError> {
-    let mut head = [0u64; 12];
-    for word in head.iter_mut() {
-        *word = read_word(input)?;
-    }
-    check_lengths(&head)?;
-    let records = read_words(alloc, input, head[4])?;
-    let mut buffers = Buffers::new(alloc, &head)?;
+#[tactic(auto, unfolding(crate::specs::Vector::agreement))]
+fn replay_next(alloc: Global, words: &[u64]) -> Result<(bool, &[u64]), ReplayError>
+    ensures { Replays result (agreement words.now) }
+{
+    let (head, rest) = read_head(words)?;
+    let (records, rest) = read_words(rest, head[4])?;
+    let mut buffers = Buffers::new(alloc, head)?;
     let mut reply = [7u64; 14];
-    let number = buffers.plan(&head, &records, &mut reply);
-    let answer = answer_agrees(alloc, input, number, &reply)?;
-    Ok(buffers.agree(alloc, input)? && answer)
+    let number = buffers.plan(head, records, &mut reply);
+    Ok(buffers.recorded(number, &reply, rest)?)
 }
 
 // Programs with the answers of planning.
@@ -124,14 +161,15 @@ fn replay_next(alloc: Global, input: &mut impl Read) -> Result<bool, ReplayError
 struct PlanVector;
 
 impl Vector for PlanVector {
-    fn replay<I: Read>(alloc: Global, input: &mut I) -> Result<bool, ReplayError> {
-        replay_next(alloc, input)
+    ghost agreement = { agreement };
+
+    fn replay(alloc: Global, words: &[u64]) -> Result<(bool, &[u64]), ReplayError> {
+        replay_next(alloc, words)
     }
 }
 
 // Replays the vectors of standard input.
 fn main(rt: HostRuntime) -> io::Result<()> {
-    let alloc = rt.alloc();
-    let mut input = BufReader::new(alloc, rt.reader())?;
-    replay_vectors::<PlanVector>(&rt, alloc, &mut input)
+    replay_vectors::<PlanVector, _>(&rt, rt.alloc(), &mut rt.reader())?;
+    Ok(())
 }

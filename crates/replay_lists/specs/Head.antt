@@ -1,6 +1,7 @@
 -- What is asked of a vector's first five words.
-use Rattle.std.specs.Prelude.{ℕ, ◌≤◌, ◌<◌, List, get_or}
+use Rattle.std.specs.Prelude.{ℕ, Bool, List, nat_lt}
+use Rattle.std.specs.List.{list_any}
 
--- the numbers of words are no larger than the program allows
-pub record HasRoom (head : List ℕ) : Type 0 where
-  pub room : (k : ℕ) → 1 ≤ k → k < 5 → get_or head k 0 ≤ 65536
+-- whether one of the numbers of words is more than 65536
+abbrev pub too_long : List ℕ → Bool
+too_long lengths = list_any (nat_lt 65536) lengths
