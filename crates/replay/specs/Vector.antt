@@ -1,4 +1,4 @@
--- What replaying a vector of planning gives: whether the recorded words are those of the definition.
+-- What replaying a vector of planning gives: whether the definition's words are recorded.
 use Rattle.std.specs.Prelude.{ℕ, Bool, ◌&&◌, ◌==◌, List, drop, get_or, replicate, Ok, Err, if◌then◌else◌}
 use Rattle.records.specs.declared.Head.{Head}
 use Rattle.plan_spec.specs.Plan.{Lengths, Result, plan_of, held_after}
@@ -84,7 +84,10 @@ buffers_in b ws = do
   promotions ← buffer_in b.promotions rotations.1
   measurements ← buffer_in b.measurements promotions.1
   groups ← buffer_in b.groups measurements.1
-  Ok (steps.0 && merges.0 && sizes.0 && rotations.0 && promotions.0 && measurements.0 && groups.0, groups.1)
+  Ok (
+    steps.0 && merges.0 && sizes.0 && rotations.0 && promotions.0 && measurements.0 && groups.0,
+    groups.1,
+  )
 
 -- whether this answer and these buffers are recorded
 unfoldable pub recorded_in : ℕ → List ℕ → Buffers → List ℕ → Read Bool
@@ -96,7 +99,8 @@ recorded_in number reply b ws = do
 -- the same of what a result of planning answers, and leaves in buffers of these lengths
 abbrev pub planned_in : Result → Lengths → List ℕ → Read Bool
 planned_in result n ws =
-    recorded_in (number_of (outcome_in result)) (laid_out 14 (words_of (outcome_in result))) (held_in result n) ws
+    let outcome = outcome_in result in
+    recorded_in (number_of outcome) (laid_out 14 (words_of outcome)) (held_in result n) ws
 
 -- the twelve words of the head
 unfoldable pub head_in : List ℕ → Read (List ℕ)
@@ -109,4 +113,5 @@ unfoldable pub agreement : List ℕ → Read Bool
 agreement ws = do
   head ← head_in ws
   records ← words_in (get_or head.0 4 0) head.1
-  planned_in (plan_of (head_of head.0) records.0 (lengths_in head.0)) (lengths_in head.0) records.1
+  let lengths = lengths_in head.0 in
+      planned_in (plan_of (head_of head.0) records.0 lengths) lengths records.1

@@ -1,6 +1,6 @@
-//! Replays fixed vectors against the proved planner and prints how many agree. Standard input holds them: programs with the
-//! answers of the published Rust, and under ceilings below 62 with those made of its answers, as tests/vectors/make writes
-//! and describes them.
+//! Replays fixed vectors against the proved planner and prints how many agree. Standard input holds
+//! them: programs with the answers of the published Rust, and under ceilings below 62 with those
+//! made of its answers, as tests/vectors/make writes and describes them.
 #![tactic(auto)]
 
 ghost use Rattle.std.specs.Prelude.{◌≡◌, length, IfOk};
@@ -92,7 +92,8 @@ impl Buffers {
     // Plans a program into the buffers; the number of the answer.
     fn plan(&mut self, head: &[u64], records: &[u64], reply: &mut [u64; 14]) -> u64
         requires { length head.now ≡ 12 }
-        ensures { Replies (head_of head.now) records.now (buffers_of self.old) (buffers_of self.new) reply.old reply.new result }
+        ensures { Replies (head_of head.now) records.now (buffers_of self.old) (buffers_of self.new)
+            reply.old reply.new result }
     {
         midvokt_plan(
             head[0],
@@ -135,7 +136,8 @@ impl Buffers {
         reply: &[u64; 14],
         words: &'a [u64],
     ) -> Result<(bool, &'a [u64]), Flaw>
-        ensures { Reads (λ x. (x.0, x.1.now)) result (recorded_in number reply.now (buffers_of self.now) words.now) }
+        ensures { Reads (λ x. (x.0, x.1.now)) result
+            (recorded_in number reply.now (buffers_of self.now) words.now) }
     {
         let (answer, rest) = answer_agrees(number, reply, words)?;
         let (held, rest) = self.agree(rest)?;

@@ -1,4 +1,4 @@
--- What replaying a list of pending operations gives: whether the recorded words are those of the definition.
+-- What replaying a list of pending operations gives: whether the definition's words are recorded.
 use Rattle.std.specs.Prelude.{ℕ, Bool, ◌&&◌, ◌==◌, List, drop, get_or, Ok, Err, if◌then◌else◌}
 use Rattle.optimizer_spec.specs.Optimizing.{Outcome, outcome_of}
 use Rattle.optimizer.specs.Answer.{told_in, list_in, map_in}
@@ -35,10 +35,14 @@ head_in ws = do
   head ← words_in 5 ws
   if too_long (drop 1 head.0) then Err TooLong else Ok head
 
--- whether what the definition gives for the width, the list and the prefixes is recorded behind them
+-- whether what the definition gives for the width, the list and the prefixes is recorded
 unfoldable pub agreement : List ℕ → Read Bool
 agreement ws = do
   head ← head_in ws
   operations ← words_in (get_or head.0 1 0) head.1
   prefixes ← words_in (get_or head.0 2 0) operations.1
-  optimized_in (outcome_of (get_or head.0 0 0) operations.0 prefixes.0 (get_or head.0 3 0) (get_or head.0 4 0)) (get_or head.0 3 0) (get_or head.0 4 0) prefixes.1
+  let width = get_or head.0 0 0 in
+      let list_len = get_or head.0 3 0 in
+      let map_len = get_or head.0 4 0 in
+      let outcome = outcome_of width operations.0 prefixes.0 list_len map_len in
+      optimized_in outcome list_len map_len prefixes.1

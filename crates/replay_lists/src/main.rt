@@ -1,5 +1,6 @@
-//! Replays fixed lists of pending operations against the proved optimizer and prints how many agree. Standard input holds them with
-//! the answers of the published Rust, as tests/vectors/make writes and describes them.
+//! Replays fixed lists of pending operations against the proved optimizer and prints how many
+//! agree. Standard input holds them with the answers of the published Rust, as tests/vectors/make
+//! writes and describes them.
 #![tactic(auto)]
 
 ghost use Rattle.std.specs.Prelude.{◌≡◌, length, IfOk};
@@ -67,7 +68,8 @@ fn recorded<'a>(
     map: &[u64],
     words: &'a [u64],
 ) -> Result<(bool, &'a [u64]), Flaw>
-    ensures { Reads (λ x. (x.0, x.1.now)) result (recorded_in number reply.now optimized.now map.now words.now) }
+    ensures { Reads (λ x. (x.0, x.1.now)) result
+        (recorded_in number reply.now optimized.now map.now words.now) }
 {
     let (answer, rest) = answer_agrees(number, reply, words)?;
     let (list, rest) = buffer_agrees(optimized, rest)?;

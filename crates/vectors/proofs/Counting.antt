@@ -9,15 +9,11 @@ use Rattle.vectors.specs.declared.Counts.{Counts}
 use Rattle.vectors.specs.declared.Flaw.{Flaw}
 
 -- the first of n vectors is the one at the front
-pub one_more : (f : List ℕ → Read Bool) (n m : ℕ) (ws behind : List ℕ) (b : Bool) → n ≡ suc m → f ws ≡ Ok (b, behind) → agreements f n ws ≡ b ∷ agreements f m behind
+pub one_more : (f : List ℕ → Read Bool) (n m : ℕ) (ws behind : List ℕ) (b : Bool)
+    → n ≡ suc m → f ws ≡ Ok (b, behind) → agreements f n ws ≡ b ∷ agreements f m behind
 one_more f n m ws behind b many e =
     ap (λ k. agreements f k ws) many
     ∙ ap (λ (r : Read Bool). elim r [ Ok x ↦ x.0 ∷ agreements f m x.1 | Err flaw ↦ [] ]) e
-
--- no vector stands behind one that cannot be read
-pub no_more : (f : List ℕ → Read Bool) (n : ℕ) (ws : List ℕ) (flaw : Flaw) → f ws ≡ Err flaw → agreements f n ws ≡ []
-no_more f zero ws flaw e = refl
-no_more f (suc m) ws flaw e = ap (λ (r : Read Bool). elim r [ Ok x ↦ x.0 ∷ agreements f m x.1 | Err other ↦ [] ]) e
 
 -- one more of those that differ
 pub one_differs : (b : Bool) (bs : List Bool) → count_by not (b ∷ bs) ≡ cond b 0 1 + count_by not bs

@@ -1,4 +1,4 @@
--- What is read of a vector's words: a word, so many words, and whether a buffer holds words that are listed.
+-- What is read of a vector's words: a word, so many words, and whether a buffer holds words.
 use Rattle.std.specs.Prelude.{ℕ, ◌≡◌, Bool, List, [], ◌∷◌, take, drop, length, nat_lt, nat_eq, Result, Ok, Err, if◌then◌else◌}
 use Rattle.std.specs.Cmp.Lexicographic.{pointwise}
 use Rattle.plan_spec.specs.Plan.{padded}

@@ -1,4 +1,5 @@
-//! Fixed vectors, read from words of eight bytes, and how many of them agree: what the programs that replay them share.
+//! Fixed vectors, read from words of eight bytes, and how many of them agree: what the programs
+//! that replay them share.
 #![tactic(auto)]
 
 ghost use Rattle.std.specs.Prelude.{◌≡◌, ◌<◌, ◌+◌, ◌^◌, ℕ, Bool, List, length, IfOk, IfSome, if◌then◌else◌};
@@ -133,7 +134,7 @@ pub trait Vector {
     // Whether the vector at the front agrees, and the words behind it.
     ghost agreement: { List ℕ → Read Bool };
 
-    /// Reads the vector at the front and replays it; whether it agrees comes with the words behind it.
+    /// Reads the vector at the front and replays it; whether it agrees comes with the words behind.
     fn replay(alloc: Global, words: &[u64]) -> Result<(bool, &[u64]), ReplayError>
         ensures { Replays result (agreement words.now) };
 }
@@ -188,7 +189,8 @@ fn replay_all<V: Vector>(
 
 // Reads the words of all bytes that are left.
 fn read_all<R: Read>(alloc: Global, input: &mut R) -> io::Result<Vec<u64>>
-    ensures { IfOk result (λ words. IfSome (R.remaining input.old) (λ bytes. words.items ≡ words_of bytes)) }
+    ensures { IfOk result (λ words. IfSome (R.remaining input.old)
+        (λ bytes. words.items ≡ words_of bytes)) }
 {
     let mut bytes = Vec::new(alloc);
     input.read_to_end(&mut bytes)?;
@@ -197,7 +199,8 @@ fn read_all<R: Read>(alloc: Global, input: &mut R) -> io::Result<Vec<u64>>
     Ok(words)
 }
 
-/// Replays a list of vectors that begins with their number, prints how many agree and how many differ, and gives both.
+/// Replays a list of vectors that begins with their number, prints how many agree and how many
+/// differ, and gives both.
 pub fn replay_vectors<V: Vector, R: Read>(
     rt: &impl Print,
     alloc: Global,
