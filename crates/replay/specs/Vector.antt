@@ -1,14 +1,14 @@
 -- What replaying a vector of planning gives: whether the definition's words are recorded.
 use Rattle.std.specs.Prelude.{ℕ, Bool, ◌&&◌, ◌==◌, List, drop, get_or, replicate, Ok, Err, if◌then◌else◌}
 use Rattle.records.specs.declared.Head.{Head}
-use Rattle.plan_spec.specs.Plan.{Lengths, Result, plan_of, held_after}
-use Rattle.plan_buffers.specs.Outputs.{Buffers}
+use Rattle.plan_spec.specs.Plan.{Lengths, Result, plan_of}
 use Rattle.answer.specs.Outcome.{outcome_in}
 use Rattle.midvokt.specs.Reply.{number_of, words_of, laid_out}
 use Rattle.vectors.specs.Reading.{Read, ◌>>=◌, word_in, words_in, holds, buffer_in}
 use Rattle.vectors.specs.declared.Flaw.TheVariants.{TooLong}
 use Rattle.replay.specs.Head.{too_long}
 use Rattle.replay.specs.declared.Buffers.{Buffers as Lent}
+use Rattle.plan_buffers.specs.SevenBuffers.{Buffers, padded_buffers, result_words}
 
 -- the head that planning is called with
 abbrev pub head_of : List ℕ → Head
@@ -57,15 +57,7 @@ sevens n = record {
 
 -- what a result leaves in buffers of these lengths
 abbrev pub held_in : Result → Lengths → Buffers
-held_in result n = record {
-  steps = held_after n.steps (λ p. p.steps) result;
-  merges = held_after n.merges (λ p. p.merges) result;
-  sizes = held_after n.sizes (λ p. p.sizes) result;
-  rotations = held_after n.rotations (λ p. p.rotations) result;
-  promotions = held_after n.promotions (λ p. p.promotions) result;
-  measurements = held_after n.measurements (λ p. p.measurements) result;
-  groups = held_after n.groups (λ p. p.groups) result;
-}
+held_in result n = padded_buffers n (result_words result)
 
 -- whether the recorded number and the fourteen recorded words are these
 unfoldable pub answer_in : ℕ → List ℕ → List ℕ → Read Bool

@@ -1,6 +1,7 @@
 -- What replaying a list of pending operations gives: whether the definition's words are recorded.
 use Rattle.std.specs.Prelude.{ℕ, Bool, ◌&&◌, ◌==◌, List, drop, get_or, Ok, Err, if◌then◌else◌}
-use Rattle.optimizer_spec.specs.Optimizing.{Outcome, outcome_of}
+use Rattle.refusals.specs.Answer.{Outcome}
+use Rattle.optimizer_spec.specs.Optimizing.{Optimized, outcome_of}
 use Rattle.optimizer.specs.Answer.{told_in, list_in, map_in}
 use Rattle.midvokt.specs.Reply.{laid_out}
 use Rattle.midvokt.specs.Optimized.{optimize_number, optimize_words}
@@ -24,7 +25,7 @@ recorded_in number reply optimized map ws = do
   Ok (answer.0 && list.0 && marks.0, marks.1)
 
 -- the same of what optimizing answers, and leaves in a list and a map of these lengths
-abbrev pub optimized_in : Outcome → ℕ → ℕ → List ℕ → Read Bool
+abbrev pub optimized_in : Outcome Optimized → ℕ → ℕ → List ℕ → Read Bool
 optimized_in outcome list_len map_len ws =
     recorded_in (optimize_number (told_in outcome)) (laid_out 6 (optimize_words (told_in outcome)))
     (list_in list_len outcome) (map_in map_len outcome) ws

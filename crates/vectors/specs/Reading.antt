@@ -1,9 +1,9 @@
 -- What is read of a vector's words: a word, so many words, and whether a buffer holds words.
 use Rattle.std.specs.Prelude.{ℕ, ◌≡◌, Bool, List, [], ◌∷◌, take, drop, length, nat_lt, nat_eq, Result, Ok, Err, if◌then◌else◌}
 use Rattle.std.specs.Cmp.Lexicographic.{pointwise}
-use Rattle.plan_spec.specs.Plan.{padded}
 use Rattle.vectors.specs.declared.Flaw.{Flaw}
 use Rattle.vectors.specs.declared.Flaw.TheVariants.{TooLong, CutShort}
+use Rattle.words.specs.Lists.{padded}
 
 -- a value and the words behind it, or what is wrong
 abbrev pub Read : Type 0 → Type 0

@@ -2,11 +2,11 @@
 use Rattle.std.specs.Prelude.{ℕ, zero, suc, ◌≡◌, ◌/◌, Bool, not, ⊤, List, [], ◌∷◌, length, Result, Ok, Err}
 use Rattle.std.specs.List.{count_by}
 use Rattle.std.specs.Borrow.{Bor}
-use Rattle.file_words.specs.Words.{words_at}
 use Rattle.vectors.specs.Reading.{Read}
 use Rattle.vectors.specs.declared.Counts.{Counts}
 use Rattle.vectors.specs.declared.ReplayError.{ReplayError}
 use Rattle.vectors.specs.declared.ReplayError.TheVariants.{Flawed, Memory}
+use Rattle.words.specs.File.{words_at}
 
 -- what a function returned is what reading gives, unless memory ran out
 abbrev pub Replays : Result (Bool × Bor (List ℕ)) ReplayError → Read Bool → Type 0
