@@ -9,8 +9,8 @@ ghost use Rattle.plan_spec.specs.Plan.{chosen};
 ghost use Rattle.answer.specs.Outcome.{finished_outcome, no_counts, outcome_of, UsedFit};
 
 use plan_buffers::{MEASUREMENT_WORDS, ROTATION_WORDS, WordCounts};
-use work_sums::WholeWorks;
 use walk::Summary;
+use work_sums::WholeWorks;
 
 /// The scalar fields of a plan, its works as whole numbers, and how many words of the first six
 /// outputs it uses.

@@ -37,11 +37,9 @@ fn plan_read(
     groups: &mut [u64],
 ) -> Result<ActiveComponentPlan, Refusal>
     ensures same { SameOutputs out.old out.new }
-    ensures answers {
-        let before = buffers_of out.old groups.old in
+    ensures answers { let before = buffers_of out.old groups.old in
         let after = buffers_of out.new groups.new in
-        ReadAnswers head dense_peak records.now before after result
-    }
+        ReadAnswers head dense_peak records.now before after result }
 {
     let n = records.len() / 8;
     let short = buffers_short(n, out, groups);
@@ -62,11 +60,9 @@ fn plan_head(
     groups: &mut [u64],
 ) -> Result<ActiveComponentPlan, Refusal>
     ensures same { SameOutputs out.old out.new }
-    ensures answers {
-        let before = buffers_of out.old groups.old in
+    ensures answers { let before = buffers_of out.old groups.old in
         let after = buffers_of out.new groups.new in
-        HeadAnswers head records.now before after result
-    }
+        HeadAnswers head records.now before after result }
 {
     let peak = dense_peak(head)?;
     if head.max_k < 8 || head.nexpvals != 0 {
@@ -84,11 +80,9 @@ pub fn build_active_component_plan(
     groups: &mut [u64],
 ) -> Result<ActiveComponentPlan, Refusal>
     ensures same { SameOutputs out.old out.new }
-    ensures answers {
-        let before = buffers_of out.old groups.old in
+    ensures answers { let before = buffers_of out.old groups.old in
         let after = buffers_of out.new groups.new in
-        Answers head records.now before after result
-    }
+        Answers head records.now before after result }
 {
     let planned = plan_head(head, records, out, groups);
     if planned.is_err() {

@@ -64,10 +64,8 @@ pub fn write_members<'a>(
     groups: &mut [u64],
 )
     requires { PlacesFit start component.now place.now width (length groups.old) }
-    ensures {
-        groups.new
-            ≡ placed_up_to start coordinate.now component.now place.now width groups.old
-    }
+    ensures { groups.new
+        ≡ placed_up_to start coordinate.now component.now place.now width groups.old }
 {
     for p in 0..width {
         let c = usize::from(component[p]);

@@ -28,18 +28,11 @@ pub fn buffers_short(n: usize, out: &StoredOutputs, groups: &[u64]) -> bool
 
 /// Zeroes what the used words leave of each buffer.
 #[tactic(auto, using(crate::proofs::Fill::rest_padded))]
-pub fn clear_rest(
-    used: WordCounts,
-    used_groups: usize,
-    out: &mut StoredOutputs,
-    groups: &mut [u64],
-)
+pub fn clear_rest(used: WordCounts, used_groups: usize, out: &mut StoredOutputs, groups: &mut [u64])
     ensures same { SameOutputs out.old out.new }
-    ensures cleared {
-        let before = buffers_of out.old groups.old in
+    ensures cleared { let before = buffers_of out.old groups.old in
         let first = first_words used used_groups before in
-        buffers_of out.new groups.new ≡ padded_buffers (lengths_of before) first
-    }
+        buffers_of out.new groups.new ≡ padded_buffers (lengths_of before) first }
 {
     fill_from(out.steps, used.steps, 0);
     fill_from(out.merges, used.merges, 0);
@@ -53,10 +46,8 @@ pub fn clear_rest(
 /// Zeroes the seven buffers.
 pub fn clear_all(out: &mut StoredOutputs, groups: &mut [u64])
     ensures same { SameOutputs out.old out.new }
-    ensures cleared {
-        let before = buffers_of out.old groups.old in
-        buffers_of out.new groups.new ≡ padded_buffers (lengths_of before) no_words
-    }
+    ensures cleared { let before = buffers_of out.old groups.old in
+        buffers_of out.new groups.new ≡ padded_buffers (lengths_of before) no_words }
 {
     out.clear();
     fill_from(groups, 0, 0);

@@ -92,10 +92,8 @@ fn trailer_words(used: WordCounts) -> [u64; 16]
 /// Writes the file of a plan with these words, and zeros behind it.
 pub fn write_file(plan: ActiveComponentPlan, sections: &Sections, file: &mut [u8])
     requires { 8 * words_for (word_counts_of (words_in sections.now)) ≤ length file.old }
-    ensures {
-        let kept = kept_in plan (words_in sections.now) in
-        file.new ≡ padded (length file.old) (bytes_of kept)
-    }
+    ensures { let kept = kept_in plan (words_in sections.now) in
+        file.new ≡ padded (length file.old) (bytes_of kept) }
 {
     let used = WordCounts {
         steps: sections.steps.len(),

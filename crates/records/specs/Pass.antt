@@ -85,10 +85,10 @@ abbrev pub numbers_by_kind : (coordinates : ℕ) → List ℕ → List ℕ
 numbers_by_kind coordinates r =
     rotation_number r
     ∷ promotion_number coordinates
-    ∷ 0 -- a record measurement
-    ∷ 0 -- a record detector
+    ∷ 0  -- a record measurement
+    ∷ 0  -- a record detector
     ∷ measurement_number r
-    ∷ 0 -- a dormant branch
+    ∷ 0  -- a dormant branch
     ∷ []
 
 -- "5: kind > 5"

@@ -47,11 +47,9 @@ pub fn store(
     file: &mut [u8],
 ) -> Result<usize, Refusal>
     ensures same { SameOutputs out.old out.new }
-    ensures stores {
-        let before = buffers_of out.old groups.old in
+    ensures stores { let before = buffers_of out.old groups.old in
         let after = buffers_of out.new groups.new in
-        Stores head records.now before after file.old file.new result
-    }
+        Stores head records.now before after file.old file.new result }
 {
     let plan = match build_active_component_plan(head, records, out, groups) {
         Ok(plan) => plan,

@@ -9,8 +9,8 @@ ghost use Rattle.vectors.specs.Replaying.{Replays, words_of, agreements, agreeme
 
 use std::alloc::{AllocError, Global};
 use std::io::Read;
-use words::file::get_words;
 use std::{fmt, io};
+use words::file::get_words;
 
 // The most words of a list in a vector.
 const LONGEST: u64 = 65536;
