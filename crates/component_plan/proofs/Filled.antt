@@ -1,6 +1,6 @@
 -- What the buffers hold once the words behind the used ones are zeroed: the walk's words stand in front, so they hold these and zeros, as the definition's plan says. And
 -- the whole works that are kept modulo 2 ^ 64 are the definition's wherever they are given: there they are at most 2 ^ 51.
-use Prim.Native.Nat.{ℕ, ◌-◌, ◌*◌, ◌/◌, ◌%◌, ◌^◌, ◌<◌, ◌≤◌}
+use Prim.Native.Nat.{ℕ, ◌*◌, ◌/◌, ◌%◌, ◌^◌, ◌<◌, ◌≤◌}
 use native.Mathlib.Omega.{arith}
 use native.Mathlib.Nat.{mod-eq_of_lt}
 use mathlib.Core.Path.{◌≡◌, refl, sym, ap, ap₂, ◌∙◌}

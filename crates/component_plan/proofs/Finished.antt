@@ -1,11 +1,11 @@
 -- A program that refusals 2 to 10 let through and whose walk has finished: what the walk leaves fits what is asked of it, and with the words behind the used ones
 -- zeroed the answer is the definition's plan.
 use Rattle.std.specs.Prelude.{Ok}
-use Prim.Native.Nat.{ℕ, ◌*◌, ◌/◌, ◌<◌, ◌≤◌}
+use Prim.Native.Nat.{ℕ, ◌/◌, ◌≤◌}
 use native.Mathlib.Omega.{arith}
 use mathlib.Core.Path.{◌≡◌, refl, sym, ap, ◌∙◌, subst}
 use mathlib.Core.List.{List}
-use lib.ListN.{length, take, get_or}
+use lib.ListN.{length, take}
 use Rattle.refusals.specs.Answer.{completed}
 use Rattle.words.specs.Words.{AreBelow}
 use Rattle.words.proofs.Patches.{begins_length}
@@ -20,15 +20,14 @@ use Rattle.plan_spec.proofs.Steps.{Run, run_of_walk}
 use Rattle.plan_spec.proofs.Sizes.{reached_longest}
 use Rattle.plan_buffers.specs.SevenBuffers.{Buffers, lengths_of, SameLengths, padded_buffers, first_words}
 use Rattle.walk.specs.declared.Summary.{Summary}
-use Rattle.walk.specs.Walking.{Walkable, Ended, WalkEnds}
-use Rattle.plan_buffers.specs.declared.WordCounts.{WordCounts}
+use Rattle.walk.specs.Walking.{Ended, WalkEnds}
 use Rattle.answer.specs.declared.ActiveComponentPlan.{ActiveComponentPlan}
-use Rattle.answer.specs.Outcome.{Fields, accepted, outcome_of, finished_outcome, used_by, UsedFit}
+use Rattle.answer.specs.Outcome.{Fields, outcome_of, finished_outcome, used_by, UsedFit}
 use Rattle.answer.proofs.Told.{fields_same}
 use Rattle.component_plan.specs.Answer.{Filled}
 use Rattle.component_plan.specs.Refusing.{lent_number}
 use Rattle.component_plan.proofs.Filled.{front_is, used_fit, used_same, whole_same, size_words, walk_held}
-use Rattle.component_plan.proofs.Refusals.{lent_words, lent_few, lent_room, lent_initial, lent_passed, walk_finishes, filled_planned, plan_same}
+use Rattle.component_plan.proofs.Refusals.{lent_few, lent_passed, walk_finishes, filled_planned, plan_same}
 
 module _ (h : Head) (dense_peak : ℕ) (ws : List ℕ) (before : Buffers) (lent : 0 ≡ lent_number h.initial_k (length ws) (buffers_refused (length ws / 8) (lengths_of before)))
     (passed : record_pass h.initial_k ws ≡ Passed) where

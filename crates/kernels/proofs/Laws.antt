@@ -2,19 +2,19 @@
 -- and the bit pattern of an exact power. Each follows from the library's account of binary digits.
 use mathlib.Core.Path.{◌≡◌, sym, ap, ◌∙◌, subst}
 use Prim.Native.Nat.{ℕ, zero, suc, ◌+◌, ◌-◌, ◌*◌, ◌/◌, ◌%◌, ◌^◌, ◌≤◌, ◌<◌}
-use native.Mathlib.Nat.{le_antisymm, lt_of_lt_of_le, lt_irrefl, lt_of_not-le, le_of_suc-le-suc, lt-suc_self, div-eq_of_lt, div-one, one-mul}
+use native.Mathlib.Nat.{le_antisymm, lt_of_lt_of_le, lt_irrefl, lt_of_not-le, lt-suc_self, div-eq_of_lt, div-one, one-mul}
 use native.Mathlib.Omega.{arith}
 use mathlib.Core.Bool.{Bool, false, not}
 use lib.Dec.{T, lt→ltb}
 use lib.Arith.{lt-one}
 use lib.Pow.{pow_mono, pow-lt, pow-add, shr_lt, shl-shr}
-use lib.Count.{ones_in, ones, ones_step, count_leading_zeros, leading_top}
+use lib.Count.{ones_in, ones, ones_step}
 use lib.IntN.{pos}
 use lib.Ieee.{fin, binary64, size, of_bits, to_bits, fits, nan_bits}
 use lib.Ieee.Bits.{of_bits-to_bits, nan_bits_above}
 use lib.Ieee.Digits.{size-lt, size-le}
 use borrow.Author.Tests.{le-ltb}
-use Rattle.kernels.specs.Bits.{highest_bit, bit_at}
+use Rattle.kernels.specs.Bits.{bit_at}
 
 -- the ones among the d lowest digits are all the ones of a number of d digits
 pub ones_in_width : (d n : ℕ) → n < 2 ^ d → ones_in d n ≡ ones n

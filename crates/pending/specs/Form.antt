@@ -1,11 +1,11 @@
 -- The form of a list of pending operations: what 26 asks, in 02, CR 6: "A list or operation outside this form or these limits, mask bits at or above the width,
 -- or an output too short for the list or the map gives 26 first of all".
-use Rattle.std.specs.Prelude.{ℕ, ◌-◌, ◌*◌, ◌/◌, ◌%◌, ◌^◌, List, [], ◌∷◌, Bool, true, false, ◌&&◌, ◌||◌, length, get_or, drop, pos, Float, if◌then◌else◌, nat_le, nat_lt, ◌==◌}
+use Rattle.std.specs.Prelude.{ℕ, ◌-◌, ◌*◌, ◌%◌, ◌^◌, List, [], ◌∷◌, Bool, true, false, ◌&&◌, ◌||◌, length, get_or, drop, pos, Float, if◌then◌else◌, nat_le, nat_lt, ◌==◌}
 use Rattle.std.specs.List.{list_all}
 use Rattle.std.specs.Float.{fin, binary64}
 use Rattle.std.specs.Float.Ieee.{of_bits, le}
 use Rattle.records.specs.Pass.{within}
-use Rattle.pending.specs.Operation.{operation_words, operation_count, Operation, operations_of, word, words_from, kind, rotation_angle, rotation_x, rotation_z, rotation_phase, rotation_sign, behind_rotation, measurement_x, measurement_z, measurement_phase, measurement_sign, record_flag, record_value, condition_flag, condition_value, expectation_flag, expectation_value, behind_measurement, classical_outcome, classical_record_flag, classical_record_value, classical_condition_flag, classical_condition_value, behind_classical}
+use Rattle.pending.specs.Operation.{operation_words, operation_count, Operation, operations_of, kind, rotation_angle, rotation_x, rotation_z, rotation_phase, rotation_sign, behind_rotation, measurement_x, measurement_z, measurement_phase, measurement_sign, record_flag, record_value, condition_flag, condition_value, expectation_flag, expectation_value, behind_measurement, classical_outcome, classical_record_flag, classical_record_value, classical_condition_flag, classical_condition_value, behind_classical}
 
 -- "at most 1,024 operations"
 abbrev pub most_operations : ℕ

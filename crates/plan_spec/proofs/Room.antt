@@ -15,11 +15,10 @@ use lib.IntN.{pos}
 use lib.ListN.{length, get_or, set, length-set, length-append, length-map}
 use lib.Seq.{get_or-set_other, take-length}
 use lib.Pow.{pow_mono, pow-add}
-use Rattle.refusals.specs.Answer.{completed, refused_at}
+use Rattle.refusals.specs.Answer.{completed}
 use borrow.Author.Tests.{ltb-false, ne_eqb}
 use Rattle.words.specs.Lists.{numbers_from}
 use Rattle.words.proofs.Numbers.{same_or_not, length-numbers}
-use Rattle.words.proofs.Padded.{padded_length}
 use Rattle.records.specs.Record.{kind, width, x_mask, z_mask, phase, pivot, flag, measurement_of, instructions_by_kind, instruction_of, record_at, records_of, instructions_of}
 use Rattle.records.specs.Pass.{Passed, coordinates_after, record_pass}
 use Rattle.records.specs.Sound.{IsSound, coordinates_through}
@@ -31,7 +30,7 @@ use Rattle.plan_spec.specs.Lists.{remove_at, total, concat}
 use Rattle.plan_spec.specs.Components.{gathered, emptied, joined, amplitudes, live_dimension}
 use Rattle.plan_spec.specs.WholeWorks.{without_quotient}
 use Rattle.plan_spec.specs.Walk.{Written, Walk, Join, join_of, rotation_row, measurement_row, start, no_step, ignored_step, promotion_step, rotation_step, measurement_step}
-use Rattle.plan_spec.specs.Plan.{Lengths, Plan, unread, unread_plan, groups_of, plan_from, buffers_refused, max_dimension, for_dense_peak, plan_of, Result}
+use Rattle.plan_spec.specs.Plan.{Lengths, Plan, unread, unread_plan, groups_of, plan_from, buffers_refused, max_dimension, for_dense_peak, plan_of}
 use Rattle.plan_spec.specs.Connectivity.{occurrences, Member, NoRepeats, ActiveOrder, active_start, active_step, active_after, promotions_in}
 use Rattle.plan_spec.specs.Laws.{Fits, FitsIn}
 use Rattle.plan_spec.proofs.Counting.{one_here, none_here, member_head, member_tail, length_remove_at}

@@ -1,23 +1,18 @@
 -- The states that the Rust guards against never occur: the invariant says that the components hold the active coordinates and nothing else, and a source of a
 -- join holds one of them. And a row's component was below the limit, since its step was accepted.
-use mathlib.Core.Path.{sym, subst}
 use mathlib.Core.List.{List, []}
-use Prim.Native.Nat.{ℕ, ◌<◌}
+use Prim.Native.Nat.{ℕ}
 use native.Mathlib.Omega.{arith}
 use lib.ListN.{get_or}
 use Rattle.records.specs.declared.Instruction.{Instruction}
-use Rattle.kernels.specs.declared.active.ActivePauliAction.{ActivePauliAction}
-use Rattle.plan_spec.specs.Lists.{place_of}
-use Rattle.plan_spec.specs.Rows.{row_width}
-use Rattle.plan_spec.specs.Walk.{Walk, join_of, local_action, start, no_step, ignored_step, promotion_step, rotation_step, measurement_step, row_head, rotation_row, measurement_row}
+use Rattle.plan_spec.specs.Walk.{Walk, join_of, start}
 use Rattle.plan_spec.specs.Connectivity.{ActiveOrder, active_start}
 use Rattle.plan_spec.specs.Laws.{IsWholeWalk}
 use Rattle.plan_spec.proofs.Counting.{member_length}
-use Rattle.plan_spec.proofs.Steps.{Stepped, ignored, rotated, promoted, measured, recorded, detected, expected, branched, Run, done, more}
-use Rattle.plan_spec.proofs.Growth.{each_more}
+use Rattle.plan_spec.proofs.Steps.{Run}
 use Rattle.plan_spec.proofs.Joins.{gathered_from}
 use Rattle.plan_spec.proofs.Invariant.{listed_active, active_listed, source_holds}
-use Rattle.plan_spec.proofs.Tracking.{Tracked, active_of, tracked_here, target_source, rotation_action, measurement_keeps, start_tracked, run_tracked}
+use Rattle.plan_spec.proofs.Tracking.{Tracked, active_of, tracked_here, target_source, start_tracked, run_tracked}
 
 pub tracked_whole : (w : Walk) (r : ActiveOrder) → Tracked w r → IsWholeWalk w
 unfolding join_of

@@ -1,7 +1,7 @@
 -- Laws that hold of every state the walk reaches and of every plan: works are numbers or infinite, never negative; whole works are given exactly where
 -- the width never passes 38, and there the float works are these numbers; the states that the Rust guards against never occur; the outputs fit the
 -- lent buffers; every word of a plan is below 2 ^ 64; every component has its dimension under the ceiling; and which ceilings a plan has.
-use Rattle.std.specs.Prelude.{ℕ, ◌+◌, ◌*◌, ◌%◌, ◌^◌, ◌≤◌, ◌<◌, ◌≡◌, List, [], Bool, ℤ, pos, length, get_or, take, Float, Some}
+use Rattle.std.specs.Prelude.{ℕ, ◌+◌, ◌*◌, ◌%◌, ◌^◌, ◌≤◌, ◌<◌, ◌≡◌, List, Bool, ℤ, pos, length, get_or, take, Float, Some}
 use Rattle.std.specs.Float.{inf, fin, binary64}
 use Rattle.std.specs.Float.Ieee.{of_int, to_bits}
 use Rattle.std.specs.Float.Ieee.Exact.{HasValue}
@@ -10,10 +10,10 @@ use Rattle.kernels.specs.Bits.{dimension}
 use Rattle.records.specs.Pass.{most_coordinates}
 use Rattle.records.specs.declared.Head.{Head}
 use Rattle.records.specs.declared.Instruction.{Instruction}
-use Rattle.plan_spec.specs.Rows.{measurement_words, rotation_words, step_words, row_width}
+use Rattle.plan_spec.specs.Rows.{measurement_words, rotation_words, step_words}
 use Rattle.plan_spec.specs.Components.{members_of, size_of}
 use Rattle.plan_spec.specs.WholeWorks.{widest_counted, WholeWorks, too_wide, without_quotient, with_quotient}
-use Rattle.plan_spec.specs.Walk.{Walk, Written, join_of}
+use Rattle.plan_spec.specs.Walk.{Walk, join_of}
 use Rattle.plan_spec.specs.Plan.{group_words, most_ceiling, Plan, Lengths}
 use Rattle.plan_spec.specs.Connectivity.{Member, active_start, active_after, replay_after, replay_joined}
 

@@ -4,7 +4,6 @@ use Rattle.std.specs.Prelude.{ℕ, suc, ◌+◌, ◌*◌, ◌%◌, List, [], ◌
 use Rattle.std.specs.Float.{fin, binary64}
 use Rattle.std.specs.Float.Ieee.{round, mul, sub, le, of_int}
 use Rattle.refusals.specs.Answer.{Outcome, completed, refused_at}
-use Rattle.words.specs.Lists.{padded}
 use Rattle.kernels.specs.Bits.{dimension}
 use Rattle.records.specs.Record.{record_words, record_count, instructions_of}
 use Rattle.records.specs.Pass.{most_coordinates, Checked, record_pass}

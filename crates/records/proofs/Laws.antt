@@ -5,15 +5,15 @@ use mathlib.Core.Path.{◌≡◌, refl, sym, ap, ◌∙◌, subst}
 use mathlib.Core.Bool.{Bool, true, false, not, ◌&&◌, ◌||◌, cond}
 use mathlib.Core.Logic.{◌⊎◌, inl, inr}
 use mathlib.Core.List.{List, [], ◌∷◌, map}
-use Prim.Native.Nat.{ℕ, zero, suc, ◌+◌, ◌/◌, ◌^◌, ◌≤◌, ◌<◌, zero-le, suc-le-suc}
+use Prim.Native.Nat.{ℕ, zero, suc, ◌+◌, ◌/◌, ◌≤◌, ◌<◌, zero-le, suc-le-suc}
 use native.Mathlib.Nat.{suc-ne-zero, not-suc-le-zero, le_of_suc-le-suc}
 use native.Mathlib.Omega.{arith}
 use lib.Dec.{T, leb, ltb, eqb, leb→le, eqb→eq}
 use lib.ListN.{length, get_or, take, length-map}
-use lib.Ieee.{Float, nan, inf, fin, binary64, of_bits, to_bits, is_nan, le}
+use lib.Ieee.{Float, nan, inf, fin, binary64, is_nan, le}
 use lib.Ieee.Scale.{finite}
 use lib.Ieee.Fits.{and_l, and_r}
-use lib.Ieee.Bits.{to_bits-of_bits, of_bits-fits}
+use lib.Ieee.Bits.{of_bits-fits}
 use Rattle.refusals.specs.Answer.{refused_at}
 use borrow.Author.Tests.{ltb-false, eqb-true}
 use Rattle.records.specs.declared.Instruction.{Instruction}

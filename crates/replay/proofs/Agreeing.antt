@@ -4,7 +4,7 @@ use mathlib.Core.Path.{◌≡◌, sym, ap, ap₂, ◌∙◌}
 use mathlib.Core.List.{List}
 use Prim.Native.Nat.{ℕ}
 use Rattle.std.specs.Prelude.{Ok}
-use lib.ListN.{length, get_or, replicate, length-replicate}
+use lib.ListN.{length, get_or, length-replicate}
 use Rattle.plan_spec.specs.Plan.{Lengths, plan_of}
 use Rattle.plan_buffers.specs.SevenBuffers.{Buffers, lengths_of, padded_buffers, result_words}
 use Rattle.answer.specs.Outcome.{outcome_in}

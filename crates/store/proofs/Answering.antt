@@ -7,7 +7,7 @@ use mathlib.Core.List.{List, []}
 use Prim.Native.Nat.{ℕ, ◌+◌, ◌*◌, ◌/◌, ◌≤◌, ◌<◌}
 use native.Mathlib.Omega.{arith}
 use lib.ListN.{length}
-use Rattle.refusals.specs.Answer.{completed, refused_at, Outcome}
+use Rattle.refusals.specs.Answer.{completed, refused_at}
 use borrow.Author.Tests.{lt-ltb, le-ltb}
 use Rattle.words.specs.Lists.{padded}
 use Rattle.words.proofs.Padded.{front_of_padded}
@@ -29,7 +29,6 @@ use Rattle.stored_plan.specs.Stored.{Kept, scalars_of, kept_of, bytes_of, file_o
 use Rattle.plan_file.specs.Writing.{scalars_in, words_for}
 use Rattle.plan_file.proofs.Writing.{bytes_count}
 use Rattle.plan_file.proofs.Fields.{found}
-use Rattle.store.specs.Storing as Storing
 use Rattle.store.specs.Storing.{fitting, store_of, file_in, outcome_in, Stores, UsedInside, used_of}
 
 -- ---- a plan that was answered

@@ -7,7 +7,7 @@ use Prim.Native.Nat.{ℕ, ◌^◌, ◌<◌}
 use native.Mathlib.Omega.{arith}
 use lib.Dec.{ltb}
 use lib.ListN.{length, take}
-use Rattle.refusals.specs.Answer.{completed, refused_at, Outcome, given}
+use Rattle.refusals.specs.Answer.{completed, refused_at, given}
 use Rattle.words.specs.Lists.{padded}
 use Rattle.words.proofs.Padded.{front_of_padded}
 use Rattle.records.specs.declared.Head.{Head}

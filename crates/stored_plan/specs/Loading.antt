@@ -1,5 +1,5 @@
 -- What the contract of `load` says: its answer, and the six outputs, for what reading the file gives.
-use Rattle.std.specs.Prelude.{ℕ, ◌+◌, ◌*◌, ◌≤◌, ◌≡◌, List, [], ◌∷◌, map, length, get_or, Result, Ok, Err}
+use Rattle.std.specs.Prelude.{ℕ, ◌+◌, ◌*◌, ◌≡◌, List, [], ◌∷◌, map, length, get_or, Result, Ok, Err}
 use Rattle.refusals.specs.Answer.{Answer, given, refused}
 use Rattle.words.specs.Lists.{numbers_from, padded}
 use Rattle.plan_buffers.specs.declared.WordCounts.{WordCounts}

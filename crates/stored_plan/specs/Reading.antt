@@ -1,6 +1,6 @@
 -- What reading any list of bytes gives: refusals 21, 22 and 23 in this order, and else the sections. Written from 02, CR 2: "Reading looks at the trailer and
 -- component_count only and hands every other word back unjudged".
-use Rattle.std.specs.Prelude.{if◌then◌else◌, ℕ, ◌+◌, ◌-◌, ◌*◌, ◌/◌, ◌%◌, List, [], ◌∷◌, map, Bool, true, false, not, ◌&&◌, ◌||◌, length, get_or, nat_lt, ◌==◌}
+use Rattle.std.specs.Prelude.{if◌then◌else◌, ℕ, ◌+◌, ◌-◌, ◌*◌, ◌/◌, ◌%◌, List, [], ◌∷◌, map, Bool, false, not, ◌&&◌, ◌||◌, length, get_or, nat_lt, ◌==◌}
 use Rattle.refusals.specs.Answer.{Answer, given, refused}
 use Rattle.words.specs.Lists.{numbers_from}
 use Rattle.words.specs.File.{word_at, words_at}

@@ -1,5 +1,5 @@
 -- One more vector is replayed, or none can be read.
-use Rattle.std.proofs.Common.{◌≡◌, ℕ, suc, zero, ◌+◌, refl, ap, ◌∙◌, ◌≤◌, arith, List, [], ◌∷◌, Bool, true, false, cond, Ok, Err}
+use Rattle.std.proofs.Common.{◌≡◌, ℕ, suc, ◌+◌, refl, ap, ◌∙◌, ◌≤◌, arith, List, [], ◌∷◌, Bool, true, false, cond, Ok, Err}
 use Rattle.std.specs.Prelude.{not, Option, Some, None, IfSome}
 use Rattle.std.specs.List.{count_by}
 use Rattle.std.proofs.lemmas.List.Sums.{sum_by-cons}

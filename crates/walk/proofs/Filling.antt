@@ -1,7 +1,7 @@
 -- Rows that stand in front of a buffer, and a row that is written behind them.
 use mathlib.Core.Path.{◌≡◌, sym, subst}
 use mathlib.Core.List.{List, [], ◌∷◌, ◌++◌}
-use Prim.Native.Nat.{ℕ, ◌+◌}
+use Prim.Native.Nat.{ℕ}
 use lib.ListN.{length}
 use Rattle.words.specs.Lists.{patch, Begins}
 use Rattle.words.proofs.Patches.{begins_patch}

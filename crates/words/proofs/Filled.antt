@@ -1,15 +1,14 @@
 -- A list that is filled from the front, one entry a turn, ends as the list of all entries: each turn sets the next one and leaves the earlier.
-use mathlib.Core.Path.{◌≡◌, refl, sym, ap, subst, ◌∙◌}
-use mathlib.Core.Logic.{⊎_elim}
+use mathlib.Core.Path.{◌≡◌, sym, ap, ◌∙◌}
 use mathlib.Core.List.{List, [], ◌∷◌, ◌++◌, map, append_assoc}
-use Prim.Native.Nat.{ℕ, suc, ◌+◌, ◌-◌, ◌≤◌, ◌<◌}
+use Prim.Native.Nat.{ℕ, ◌+◌, ◌-◌, ◌≤◌, ◌<◌}
 use native.Mathlib.Nat.{zero-add}
 use native.Mathlib.Numerals.{add-one}
 use native.Mathlib.Omega.{arith}
-use lib.ListN.{length, get_or, set, take, replicate, length-set, length-map, get_or-map, replicate-append-replicate}
-use lib.Seq.{get_or-set_same, get_or-set_other, ext_get_or, take-suc-set}
+use lib.ListN.{length, get_or, set, take, replicate, length-map, get_or-map, replicate-append-replicate}
+use lib.Seq.{ext_get_or, take-suc-set}
 use Rattle.words.specs.Lists.{numbers_from}
-use Rattle.words.proofs.Numbers.{same_or_not, length-numbers, numbers_at}
+use Rattle.words.proofs.Numbers.{length-numbers, numbers_at}
 
 -- n entries, of which the first i are those of f
 abbrev pub Filled : {A : Type 0} → (ℕ → A) → ℕ → ℕ → List A → Type 0

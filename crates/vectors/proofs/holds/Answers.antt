@@ -1,6 +1,6 @@
 -- A buffer that has been passed is the used words and zeros behind them, and one that is left is not.
-use Rattle.std.proofs.Common.{◌≡◌, refl, sym, ap, ◌∙◌, arith, ◌+◌, ◌-◌, ℕ, List, length, replicate, get_or, rules}
-use Rattle.std.proofs.lemmas.List.{ext_get_or, length-append, length-replicate}
+use Rattle.std.proofs.Common.{◌≡◌, refl, sym, ap, ◌∙◌, arith, ℕ, List, length, get_or, rules}
+use Rattle.std.proofs.lemmas.List.{ext_get_or}
 use Rattle.words.specs.Lists.{padded}
 use Rattle.words.proofs.Padded.{zeroed_at, padded_length}
 use Rattle.vectors.proofs.Same.{same, other}
