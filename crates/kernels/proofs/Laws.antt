@@ -8,13 +8,13 @@ use mathlib.Core.Bool.{Bool, false, not}
 use lib.Dec.{T, lt→ltb}
 use lib.Arith.{lt-one}
 use lib.Pow.{pow_mono, pow-lt, pow-add, shr_lt, shl-shr}
-use lib.Count.{ones_in, ones, ones_step}
+use lib.Count.{ones_in, ones, ones_step, count_leading_zeros, leading_top}
 use lib.IntN.{pos}
 use lib.Ieee.{fin, binary64, size, of_bits, to_bits, fits, nan_bits}
 use lib.Ieee.Bits.{of_bits-to_bits, nan_bits_above}
 use lib.Ieee.Digits.{size-lt, size-le}
 use borrow.Author.Tests.{le-ltb}
-use Rattle.kernels.specs.Bits.{bit_at}
+use Rattle.kernels.specs.Bits.{bit_at, highest_bit}
 
 -- the ones among the d lowest digits are all the ones of a number of d digits
 pub ones_in_width : (d n : ℕ) → n < 2 ^ d → ones_in d n ≡ ones n
@@ -23,6 +23,18 @@ ones_in_width zero n h = sym (ap ones (lt-one h))
 ones_in_width (suc d) n h =
     ap (λ (x : ℕ). n % 2 + x) (ones_in_width d (n / 2) (shr_lt d 1 (subst (λ (k : ℕ). n < 2 ^ k) (omega arith) h)))
     ∙ sym (ones_step n)
+
+-- a word that is not 0 has its highest bit at 63 minus its leading zeros: it is at least that power of two and below the next
+pub highest_bounds : (x : ℕ) → 0 < x → x < 2 ^ 64 → (2 ^ highest_bit x ≤ x) × (x < 2 ^ suc (highest_bit x))
+unfolding highest_bit
+highest_bounds x p h =
+    let t = leading_top 64 x p h in
+    let place : 63 - count_leading_zeros 64 x ≡ t.0 = omega (arith, t.1) in
+    (subst (λ (j : ℕ). 2 ^ j ≤ x) (sym place) t.2, subst (λ (j : ℕ). x < 2 ^ suc j) (sym place) t.3)
+
+-- so it has fewer than 64 leading zeros
+pub leading_below : (x : ℕ) → 0 < x → x < 2 ^ 64 → count_leading_zeros 64 x ≤ 63
+leading_below x p h = let t = leading_top 64 x p h in omega (arith, t.1)
 
 -- a number of d digits has no bit at a place from d on
 pub bit_past : (d x p : ℕ) → x < 2 ^ d → d ≤ p → bit_at x p ≡ 0

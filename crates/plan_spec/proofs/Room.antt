@@ -15,7 +15,7 @@ use lib.IntN.{pos}
 use lib.ListN.{length, get_or, set, length-set, length-append, length-map}
 use lib.Seq.{get_or-set_other, take-length}
 use lib.Pow.{pow_mono, pow-add}
-use Rattle.refusals.specs.Answer.{completed}
+use Rattle.refusals.specs.Answer.{completed, refused_at}
 use borrow.Author.Tests.{ltb-false, ne_eqb}
 use Rattle.words.specs.Lists.{numbers_from}
 use Rattle.words.proofs.Numbers.{same_or_not, length-numbers}
@@ -30,7 +30,7 @@ use Rattle.plan_spec.specs.Lists.{remove_at, total, concat}
 use Rattle.plan_spec.specs.Components.{gathered, emptied, joined, amplitudes, live_dimension}
 use Rattle.plan_spec.specs.WholeWorks.{without_quotient}
 use Rattle.plan_spec.specs.Walk.{Written, Walk, Join, join_of, rotation_row, measurement_row, start, no_step, ignored_step, promotion_step, rotation_step, measurement_step}
-use Rattle.plan_spec.specs.Plan.{Lengths, Plan, unread, unread_plan, groups_of, plan_from, buffers_refused, max_dimension, for_dense_peak, plan_of}
+use Rattle.plan_spec.specs.Plan.{Lengths, Plan, unread, unread_plan, groups_of, plan_from, buffers_refused, max_dimension, for_dense_peak, plan_of, Result, held_after}
 use Rattle.plan_spec.specs.Connectivity.{occurrences, Member, NoRepeats, ActiveOrder, active_start, active_step, active_after, promotions_in}
 use Rattle.plan_spec.specs.Laws.{Fits, FitsIn}
 use Rattle.plan_spec.proofs.Counting.{one_here, none_here, member_head, member_tail, length_remove_at}
@@ -41,6 +41,7 @@ use Rattle.plan_spec.proofs.Invariant.{Holds, sources_once, source_below, source
 use Rattle.plan_spec.proofs.Tracking.{join_peak_is, Tracked, active_of, tracked_here, tracked_join, target_source, target_below, target_members, start_tracked, step_tracked, run_tracked}
 use Rattle.plan_spec.proofs.Accepted.{Accepted, ceiling_passed, accepted}
 use Rattle.plan_spec.proofs.Growth.{row_count, run_rows, run_steps, run_rotations, run_measurements, start_wide, length_concat}
+use Rattle.words.proofs.Padded.{padded_length}
 
 -- ---- sums over a collection of lists
 
@@ -602,3 +603,7 @@ module _ (h : Head) (ws : List ℕ) (l : Lengths) (p : Plan) (e : plan_of h ws l
   -- so they fit the lent buffers
   pub plan_fits_in : FitsIn p l
   plan_fits_in = (either (unread h) refl).1
+
+pub held_length : (n : ℕ) (output : Plan → List ℕ) (r : Result) → ((p : Plan) → r ≡ completed p → length (output p) ≤ n) → length (held_after n output r) ≡ n
+held_length n output (completed p) h = let all = padded_length n (output p) in let few = h p refl in omega arith
+held_length n output (refused_at number index) h = let all = padded_length n [] in omega arith

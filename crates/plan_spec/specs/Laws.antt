@@ -1,7 +1,7 @@
 -- Laws that hold of every state the walk reaches and of every plan: works are numbers or infinite, never negative; whole works are given exactly where
 -- the width never passes 38, and there the float works are these numbers; the states that the Rust guards against never occur; the outputs fit the
 -- lent buffers; every word of a plan is below 2 ^ 64; every component has its dimension under the ceiling; and which ceilings a plan has.
-use Rattle.std.specs.Prelude.{ℕ, ◌+◌, ◌*◌, ◌%◌, ◌^◌, ◌≤◌, ◌<◌, ◌≡◌, List, Bool, ℤ, pos, length, get_or, take, Float, Some}
+use Rattle.std.specs.Prelude.{[], ℕ, ◌+◌, ◌*◌, ◌%◌, ◌^◌, ◌≤◌, ◌<◌, ◌≡◌, List, Bool, ℤ, pos, length, get_or, take, Float, Some}
 use Rattle.std.specs.Float.{inf, fin, binary64}
 use Rattle.std.specs.Float.Ieee.{of_int, to_bits}
 use Rattle.std.specs.Float.Ieee.Exact.{HasValue}
@@ -10,10 +10,10 @@ use Rattle.kernels.specs.Bits.{dimension}
 use Rattle.records.specs.Pass.{most_coordinates}
 use Rattle.records.specs.declared.Head.{Head}
 use Rattle.records.specs.declared.Instruction.{Instruction}
-use Rattle.plan_spec.specs.Rows.{measurement_words, rotation_words, step_words}
+use Rattle.plan_spec.specs.Rows.{measurement_words, rotation_words, step_words, row_width}
 use Rattle.plan_spec.specs.Components.{members_of, size_of}
 use Rattle.plan_spec.specs.WholeWorks.{widest_counted, WholeWorks, too_wide, without_quotient, with_quotient}
-use Rattle.plan_spec.specs.Walk.{Walk, join_of}
+use Rattle.plan_spec.specs.Walk.{Walk, join_of, Written}
 use Rattle.plan_spec.specs.Plan.{group_words, most_ceiling, Plan, Lengths}
 use Rattle.plan_spec.specs.Connectivity.{Member, active_start, active_after, replay_after, replay_joined}
 
@@ -55,6 +55,11 @@ pub record IsWholeWalk (w : Walk) : Type 0 where
   pub joined_active : (x z a : ℕ) → Member a (join_of x z w).members → Member a w.order
   pub source_live : (x z c : ℕ) → Member c (join_of x z w).sources → (c < length w.components) × (0 < size_of w.components c)
   pub target_given : (x z : ℕ) → 0 < length w.order → Member (join_of x z w).component (join_of x z w).sources
+
+-- every row's component had fewer members than the limit when it was joined
+pub record RowsBelow (limit : ℕ) (o : Written) : Type 0 where
+  pub rotation : (i : ℕ) → i < length o.rotations → row_width (get_or o.rotations i []) < limit
+  pub measurement : (i : ℕ) → i < length o.measurements → row_width (get_or o.measurements i []) < limit
 
 -- what the outputs of a plan take, with n records: never more than refusal 3 asks for, and a peak that a word holds
 pub record Fits (p : Plan) (n : ℕ) : Type 0 where

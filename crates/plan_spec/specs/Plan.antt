@@ -13,6 +13,7 @@ use Rattle.plan_spec.specs.Lists.{concat}
 use Rattle.plan_spec.specs.Components.{allocated_for}
 use Rattle.plan_spec.specs.WholeWorks.{WholeWorks, whole_works_of}
 use Rattle.plan_spec.specs.Walk.{Walk, Walked, start, walk_from}
+use Rattle.words.specs.Lists.{padded}
 
 -- the lengths of the seven lent buffers, in words
 pub record Lengths : Type 0 where
@@ -46,6 +47,11 @@ pub record Plan : Type 0 where
 -- "A refusal returns its number and record index (0 for head and buffers)"
 abbrev pub Result : Type 0
 Result = Outcome Plan
+
+-- what the lent buffer of one output holds afterwards: the output and zeros behind it, or zeros after a refusal
+abbrev pub held_after : (long : ℕ) → (Plan → List ℕ) → Result → List ℕ
+held_after n output (completed p) = padded n (output p)
+held_after n output (refused_at number index) = padded n []
 
 -- ---- section 6
 

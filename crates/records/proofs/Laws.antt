@@ -5,15 +5,15 @@ use mathlib.Core.Path.{◌≡◌, refl, sym, ap, ◌∙◌, subst}
 use mathlib.Core.Bool.{Bool, true, false, not, ◌&&◌, ◌||◌, cond}
 use mathlib.Core.Logic.{◌⊎◌, inl, inr}
 use mathlib.Core.List.{List, [], ◌∷◌, map}
-use Prim.Native.Nat.{ℕ, zero, suc, ◌+◌, ◌/◌, ◌≤◌, ◌<◌, zero-le, suc-le-suc}
+use Prim.Native.Nat.{ℕ, zero, suc, ◌+◌, ◌/◌, ◌≤◌, ◌<◌, zero-le, suc-le-suc, ◌^◌}
 use native.Mathlib.Nat.{suc-ne-zero, not-suc-le-zero, le_of_suc-le-suc}
 use native.Mathlib.Omega.{arith}
 use lib.Dec.{T, leb, ltb, eqb, leb→le, eqb→eq}
 use lib.ListN.{length, get_or, take, length-map}
-use lib.Ieee.{Float, nan, inf, fin, binary64, is_nan, le}
+use lib.Ieee.{Float, nan, inf, fin, binary64, is_nan, le, of_bits, to_bits}
 use lib.Ieee.Scale.{finite}
 use lib.Ieee.Fits.{and_l, and_r}
-use lib.Ieee.Bits.{of_bits-fits}
+use lib.Ieee.Bits.{of_bits-fits, to_bits-of_bits}
 use Rattle.refusals.specs.Answer.{refused_at}
 use borrow.Author.Tests.{ltb-false, eqb-true}
 use Rattle.records.specs.declared.Instruction.{Instruction}
@@ -43,6 +43,12 @@ action_sound r e =
     let w = cond-false (ltb 62 (width r)) 5 (cond (ltb 3 (phase r)) 7 0) e in
     let p = cond-false (ltb 3 (phase r)) 6 0 w.1 in
     record { width_small = ltb-false 62 (width r) w.0; phase_small = ltb-false 3 (phase r) p.0 }
+
+finite_no_nan : (x : Float) → T (finite x) → T (not (is_nan x))
+unfolding is_nan
+finite_no_nan nan t = t
+finite_no_nan (inf s) t = tt
+finite_no_nan (fin s m e) t = tt
 
 above_no_nan : (x : Float) → T (le minus_one x) → T (not (is_nan x))
 unfolding is_nan le
@@ -131,6 +137,18 @@ bounded_from (r ∷ rs) i c e h (suc n) =
 -- words that pass make no more than 512 coordinates, after any number n of their records
 pub passed_coordinates : (k : ℕ) (ws : List ℕ) → k ≤ 512 → record_pass k ws ≡ Passed → (n : ℕ) → coordinates_through k (take n (records_of ws)) ≤ 512
 passed_coordinates k ws h e n = bounded_from (records_of ws) 0 k (sym (pass_start k ws) ∙ e) h n
+
+-- ---- the floats of a rotation that passes, by their bits
+
+no_nan_at : (r : List ℕ) → IsSoundRotation r → (j : ℕ) → j < 3 → T (not (is_nan (of_bits binary64 (word_of r (5 + j)))))
+no_nan_at r s zero h = finite_no_nan (angle r) s.angle_finite
+no_nan_at r s (suc zero) h = s.sine_range.no_nan
+no_nan_at r s (suc (suc zero)) h = s.cosine_range.no_nan
+no_nan_at r s (suc (suc (suc j))) h = absurd (omega arith)
+
+-- angle (j 0), sine (1) and cosine (2) have their words as their bits
+pub rotation_bits : (r : List ℕ) → IsSoundRotation r → (j : ℕ) → j < 3 → word_of r (5 + j) < 2 ^ 64 → to_bits binary64 (of_bits binary64 (word_of r (5 + j))) ≡ word_of r (5 + j)
+rotation_bits r s j h w = to_bits-of_bits binary64 (word_of r (5 + j)) w (no_nan_at r s j h)
 
 -- ---- the instructions
 
