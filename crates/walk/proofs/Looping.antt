@@ -283,6 +283,14 @@ module _ {limit k : ℕ} {ws : List ℕ} {i : ℕ} {o : List ℕ} {s : State} {t
           let h = J.some lo.w _ (R.tr limit k ws lo.b lo.ok i next lo.w s t c lo.at lo.long) s lo.at.rep (R.few limit k ws lo.b lo.ok i next lo.w s t c lo.at lo.long) a z passed.1 measurement_small in
           omega arith
 
+      -- the order's last position, once the pivot has left
+      pub gap_fits : (v : State) → Removed u pivot v → BeforeRemoval u pivot → (pivot ≤ v.width) × (v.width < 512) × (length o ≡ 512)
+      gap_fits v removed before =
+          let e = removed.width in
+          let f = before.active in
+          let g = before.narrow in
+          (omega arith, omega arith, lo.ordered.long)
+
       module _ {jn : Joining} (join : made ≡ Some jn) where
         opened_so : Some jn ≡ join_before s.size sources
         opened_so = sym join ∙ jm.opened.join

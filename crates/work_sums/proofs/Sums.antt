@@ -1,6 +1,6 @@
 -- Sums over the sources of a join, one source more at a time: each sum over the sources from i on is source i's share and the sum over those behind it. And powers
 -- of two and sums modulo 2 ^ 64.
-use Rattle.std.proofs.Common.{◌≡◌, ℕ, ◌+◌, ◌-◌, ◌*◌, ◌%◌, ◌^◌, ◌<◌, ◌≤◌, Bool, true, false, cond, leb, List, [], length, get_or, drop, pos, sym, ap, ◌∙◌, add_assoc, mod-eq_of_lt, arith, pow_mono, pow-add}
+use Rattle.std.proofs.Common.{◌≡◌, ℕ, ◌+◌, ◌-◌, ◌*◌, ◌%◌, ◌^◌, ◌<◌, ◌≤◌, Bool, true, false, cond, leb, List, [], length, get_or, drop, pos, sym, refl, ap, ◌∙◌, add_assoc, mod-eq_of_lt, arith, pow_mono, pow-add}
 use native.Mathlib.Nat.{mod-add-mod, add-mod-mod, mul-mod_left}
 use lib.Ieee.{Float, binary64, fin, add, mul}
 use Rattle.kernels.specs.Bits.{exp2}
@@ -25,6 +25,10 @@ power_gone k h =
     let same : k - 64 + 64 ≡ k = omega arith in
     ap (λ (n : ℕ). n % 2 ^ 64) (sym (ap (λ (n : ℕ). 2 ^ n) same) ∙ pow-add 2 (k - 64) 64) ∙ mul-mod_left (2 ^ (k - 64)) (2 ^ 64)
 
+-- what is added may be taken modulo 2 ^ 64 before
+pub wraps : (sum before more full : ℕ) → sum ≡ (before + more) % 2 ^ 64 → more ≡ full % 2 ^ 64 → sum ≡ (before + full) % 2 ^ 64
+wraps sum before more full e m = e ∙ ap (λ (n : ℕ). (before + n) % 2 ^ 64) m ∙ add-mod-mod before full (2 ^ 64)
+
 -- sums so far that are kept modulo 2 ^ 64, with more added
 pub kept_sum : (kept full more : ℕ) → kept ≡ full % 2 ^ 64 → (kept + more) % 2 ^ 64 ≡ (full + more) % 2 ^ 64
 kept_sum kept full more e = ap (λ (n : ℕ). (n + more) % 2 ^ 64) e ∙ mod-add-mod full (2 ^ 64) more
@@ -32,7 +36,7 @@ kept_sum kept full more e = ap (λ (n : ℕ). (n + more) % 2 ^ 64) e ∙ mod-add
 -- and with a joining cost, kept so too, before it
 pub kept_joined : (kept full cost paid more : ℕ) → kept ≡ full % 2 ^ 64 → cost ≡ paid % 2 ^ 64 → ((kept + cost) % 2 ^ 64 + more) % 2 ^ 64 ≡ (full + (paid + more)) % 2 ^ 64
 kept_joined kept full cost paid more e c =
-    ap (λ (n : ℕ). (n + more) % 2 ^ 64) (kept_sum kept full cost e ∙ ap (λ (n : ℕ). (full + n) % 2 ^ 64) c ∙ add-mod-mod full paid (2 ^ 64))
+    ap (λ (n : ℕ). (n + more) % 2 ^ 64) (kept_sum kept full cost e ∙ wraps ((full + cost) % 2 ^ 64) full cost paid refl c)
     ∙ mod-add-mod (full + paid) (2 ^ 64) more
     ∙ ap (λ (n : ℕ). n % 2 ^ 64) (add_assoc full paid more)
 
