@@ -1,12 +1,13 @@
 -- Works are never NaN and never negative: they begin at +0, and are only added to, by sums of powers of two. `round` keeps the sign that it is given, a sum
 -- of two that are not negative is rounded with the sign +, and an infinity meets no other sign and no factor 0.
+use mathlib.Core.Path.{◌≡◌, refl}
 use mathlib.Core.Bool.{Bool, true, false, cond}
 use mathlib.Core.List.{List, [], ◌∷◌}
 use Prim.Native.Nat.{ℕ, zero, suc, ◌+◌, ◌-◌, ◌*◌, ◌/◌, ◌%◌, ◌^◌, compare}
 use lib.Dec.{leb, ltb}
 use lib.ListN.{length}
 use lib.IntN.{pos}
-use lib.Ieee.{Float, fin, Format, binary64, prec, emax, low, size, nearest, round, units, odd, sum, add, mul}
+use lib.Ieee.{Float, fin, Format, binary64, prec, emax, low, size, nearest, round, units, odd, sum, add, mul, is_nan}
 use Rattle.kernels.specs.Bits.{exp2}
 use Rattle.records.specs.declared.Instruction.{Instruction}
 use Rattle.plan_spec.specs.Components.{size_of, float_two, cost_from, joining_cost}
@@ -15,6 +16,12 @@ use Rattle.plan_spec.specs.Laws.{IsNonNegative, infinite, number, NonNegativeWor
 use Rattle.plan_spec.proofs.Steps.{Stepped, ignored, rotated, promoted, measured, recorded, detected, expected, branched, Run, done, more}
 
 -- ---- the operations
+
+-- no NaN
+pub nonneg_number : {x : Float} → IsNonNegative x → is_nan x ≡ false
+unfolding is_nan
+nonneg_number infinite = refl
+nonneg_number (number m e) = refl
 
 -- `odd` keeps the sign
 odd_nonneg : (d q k l : ℕ) → IsNonNegative (odd d false q k l)
