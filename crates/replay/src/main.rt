@@ -6,13 +6,13 @@
 ghost use Rattle.std.specs.Prelude.{◌≡◌, length, IfOk};
 ghost use Rattle.midvokt.specs.Reply.{Replies};
 ghost use Rattle.vectors.specs.Reading.{Reads};
-ghost use Rattle.vectors.specs.Replaying.{Replays};
 ghost use Rattle.replay.specs.Head.{too_long};
 ghost use Rattle.replay.specs.Vector.{head_of, lengths_in, buffers_of, sevens, answer_in, buffers_in, recorded_in, head_in, agreement};
 
 use midvokt::midvokt_plan;
 use std::alloc::{AllocError, Global};
 use std::io;
+use std::io::{BufReader, Read};
 use vectors::{
     Flaw, ReplayError, Vector, buffer_agrees, holds, read_word, read_words, replay_vectors,
 };
@@ -34,30 +34,33 @@ fn too_long(lengths: &[u64]) -> bool
 
 // Reads the twelve words of a head.
 #[tactic(auto, unfolding(crate::specs::Vector::head_in))]
-fn read_head(words: &[u64]) -> Result<(&[u64], &[u64]), Flaw>
-    ensures head { Reads (λ x. (x.0.now, x.1.now)) result (head_in words.now) }
-    ensures twelve { IfOk result (λ x. length x.0.now ≡ 12) }
+fn read_head<R: Read>(alloc: Global, input: &mut R) -> Result<Vec<u64>, ReplayError>
+    ensures head { Reads (λ head. head.items) result
+        (R.remaining input.old) (R.remaining input.new) head_in }
+    ensures twelve { IfOk result (λ head. length head.items ≡ 12) }
 {
-    let (head, rest) = read_words(words, 12)?;
+    let head = read_words(alloc, input, 12)?;
     if too_long(&head[4..]) {
-        Err(Flaw::TooLong)
+        Err(ReplayError::Flawed(Flaw::TooLong))
     } else {
-        Ok((head, rest))
+        Ok(head)
     }
 }
 
 // Reads the number and the words that the call should give, and compares.
 #[tactic(auto, unfolding(crate::specs::Vector::answer_in))]
-fn answer_agrees<'a>(
+fn answer_agrees<R: Read>(
+    alloc: Global,
+    input: &mut R,
     number: u64,
     reply: &[u64; 14],
-    words: &'a [u64],
-) -> Result<(bool, &'a [u64]), Flaw>
-    ensures { Reads (λ x. (x.0, x.1.now)) result (answer_in number reply.now words.now) }
+) -> Result<bool, ReplayError>
+    ensures { Reads (λ agrees. agrees) result
+        (R.remaining input.old) (R.remaining input.new) (answer_in number reply.now) }
 {
-    let (recorded, rest) = read_word(words)?;
-    let (expected, rest) = read_words(rest, 14)?;
-    Ok((number == recorded && holds(reply, expected), rest))
+    let recorded = read_word(input)?;
+    let expected = read_words(alloc, input, 14)?;
+    Ok(number == recorded && holds(reply, &expected))
 }
 
 // The seven buffers of a plan.
@@ -114,48 +117,51 @@ impl Buffers {
 
     // Reads what each buffer should hold, and compares every word.
     #[tactic(auto, unfolding(crate::specs::Vector::buffers_in))]
-    fn agree<'a>(&self, words: &'a [u64]) -> Result<(bool, &'a [u64]), Flaw>
-        ensures { Reads (λ x. (x.0, x.1.now)) result (buffers_in (buffers_of self.now) words.now) }
+    fn agree<R: Read>(&self, alloc: Global, input: &mut R) -> Result<bool, ReplayError>
+        ensures { Reads (λ agrees. agrees) result
+            (R.remaining input.old) (R.remaining input.new) (buffers_in (buffers_of self.now)) }
     {
-        let (steps, rest) = buffer_agrees(&self.steps, words)?;
-        let (merges, rest) = buffer_agrees(&self.merges, rest)?;
-        let (sizes, rest) = buffer_agrees(&self.sizes, rest)?;
-        let (rotations, rest) = buffer_agrees(&self.rotations, rest)?;
-        let (promotions, rest) = buffer_agrees(&self.promotions, rest)?;
-        let (measurements, rest) = buffer_agrees(&self.measurements, rest)?;
-        let (groups, rest) = buffer_agrees(&self.groups, rest)?;
-        let agrees = steps & merges & sizes & rotations & promotions & measurements & groups;
-        Ok((agrees, rest))
+        let steps = buffer_agrees(alloc, input, LONGEST, &self.steps)?;
+        let merges = buffer_agrees(alloc, input, LONGEST, &self.merges)?;
+        let sizes = buffer_agrees(alloc, input, LONGEST, &self.sizes)?;
+        let rotations = buffer_agrees(alloc, input, LONGEST, &self.rotations)?;
+        let promotions = buffer_agrees(alloc, input, LONGEST, &self.promotions)?;
+        let measurements = buffer_agrees(alloc, input, LONGEST, &self.measurements)?;
+        let groups = buffer_agrees(alloc, input, LONGEST, &self.groups)?;
+        Ok(steps & merges & sizes & rotations & promotions & measurements & groups)
     }
 
     // Reads the answer and the buffers that the call should give, and compares.
     #[tactic(auto, unfolding(crate::specs::Vector::recorded_in))]
-    fn recorded<'a>(
+    fn recorded<R: Read>(
         &self,
+        alloc: Global,
+        input: &mut R,
         number: u64,
         reply: &[u64; 14],
-        words: &'a [u64],
-    ) -> Result<(bool, &'a [u64]), Flaw>
-        ensures { Reads (λ x. (x.0, x.1.now)) result
-            (recorded_in number reply.now (buffers_of self.now) words.now) }
+    ) -> Result<bool, ReplayError>
+        ensures { Reads (λ agrees. agrees) result (R.remaining input.old) (R.remaining input.new)
+            (recorded_in number reply.now (buffers_of self.now)) }
     {
-        let (answer, rest) = answer_agrees(number, reply, words)?;
-        let (held, rest) = self.agree(rest)?;
-        Ok((answer & held, rest))
+        let answer = answer_agrees(alloc, input, number, reply)?;
+        let held = self.agree(alloc, input)?;
+        Ok(answer & held)
     }
 }
 
 // Reads the next vector and replays it; whether it agrees.
 #[tactic(auto, unfolding(crate::specs::Vector::agreement))]
-fn replay_next(alloc: Global, words: &[u64]) -> Result<(bool, &[u64]), ReplayError>
-    ensures { Replays result (agreement words.now) }
+fn replay_next<R: Read>(alloc: Global, input: &mut R) -> Result<bool, ReplayError>
+    ensures { Reads (λ agrees. agrees) result
+        (R.remaining input.old) (R.remaining input.new) agreement }
 {
-    let (head, rest) = read_head(words)?;
-    let (records, rest) = read_words(rest, head[4])?;
+    let twelve = read_head(alloc, input)?;
+    let head = twelve.as_slice();
+    let records = read_words(alloc, input, head[4])?;
     let mut buffers = Buffers::new(alloc, head)?;
     let mut reply = [7u64; 14];
-    let number = buffers.plan(head, records, &mut reply);
-    Ok(buffers.recorded(number, &reply, rest)?)
+    let number = buffers.plan(head, &records, &mut reply);
+    buffers.recorded(alloc, input, number, &reply)
 }
 
 // Programs with the answers of planning.
@@ -165,13 +171,14 @@ struct PlanVector;
 impl Vector for PlanVector {
     ghost agreement = { agreement };
 
-    fn replay(alloc: Global, words: &[u64]) -> Result<(bool, &[u64]), ReplayError> {
-        replay_next(alloc, words)
+    fn replay<R: Read>(alloc: Global, input: &mut R) -> Result<bool, ReplayError> {
+        replay_next(alloc, input)
     }
 }
 
 // Replays the vectors of standard input.
 fn main(rt: HostRuntime) -> io::Result<()> {
-    replay_vectors::<PlanVector, _>(&rt, rt.alloc(), &mut rt.reader())?;
+    let mut input = BufReader::new(rt.alloc(), rt.reader())?;
+    replay_vectors::<PlanVector, _>(&rt, rt.alloc(), &mut input)?;
     Ok(())
 }

@@ -2,6 +2,10 @@
 use Rattle.std.specs.Prelude.{ℕ, Bool, List, nat_lt}
 use Rattle.std.specs.List.{list_any}
 
--- whether one of the numbers of words is more than 65536
+-- the most words that a list, its prefixes, the lent list or the map may have
+abbrev pub longest : ℕ
+longest = 65536
+
+-- whether one of the numbers of words is more
 abbrev pub too_long : List ℕ → Bool
-too_long lengths = list_any (nat_lt 65536) lengths
+too_long lengths = list_any (nat_lt longest) lengths

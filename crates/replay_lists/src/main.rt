@@ -5,13 +5,13 @@
 
 ghost use Rattle.std.specs.Prelude.{◌≡◌, length, IfOk};
 ghost use Rattle.vectors.specs.Reading.{Reads};
-ghost use Rattle.vectors.specs.Replaying.{Replays};
 ghost use Rattle.replay_lists.specs.Head.{too_long};
 ghost use Rattle.replay_lists.specs.Vector.{answer_in, recorded_in, head_in, agreement};
 
 use midvokt::optimizing::midvokt_optimize;
 use std::alloc::Global;
 use std::io;
+use std::io::{BufReader, Read};
 use vectors::{
     Flaw, ReplayError, Vector, buffer_agrees, holds, read_word, read_words, replay_vectors,
 };
@@ -33,70 +33,75 @@ fn too_long(lengths: &[u64]) -> bool
 
 // Reads the five words of a head.
 #[tactic(auto, unfolding(crate::specs::Vector::head_in))]
-fn read_head(words: &[u64]) -> Result<(&[u64], &[u64]), Flaw>
-    ensures head { Reads (λ x. (x.0.now, x.1.now)) result (head_in words.now) }
-    ensures five { IfOk result (λ x. length x.0.now ≡ 5) }
+fn read_head<R: Read>(alloc: Global, input: &mut R) -> Result<Vec<u64>, ReplayError>
+    ensures head { Reads (λ head. head.items) result
+        (R.remaining input.old) (R.remaining input.new) head_in }
+    ensures five { IfOk result (λ head. length head.items ≡ 5) }
 {
-    let (head, rest) = read_words(words, 5)?;
+    let head = read_words(alloc, input, 5)?;
     if too_long(&head[1..]) {
-        Err(Flaw::TooLong)
+        Err(ReplayError::Flawed(Flaw::TooLong))
     } else {
-        Ok((head, rest))
+        Ok(head)
     }
 }
 
 // Reads the number and the words that the call should give, and compares.
 #[tactic(auto, unfolding(crate::specs::Vector::answer_in))]
-fn answer_agrees<'a>(
+fn answer_agrees<R: Read>(
+    alloc: Global,
+    input: &mut R,
     number: u64,
     reply: &[u64; 6],
-    words: &'a [u64],
-) -> Result<(bool, &'a [u64]), Flaw>
-    ensures { Reads (λ x. (x.0, x.1.now)) result (answer_in number reply.now words.now) }
+) -> Result<bool, ReplayError>
+    ensures { Reads (λ agrees. agrees) result
+        (R.remaining input.old) (R.remaining input.new) (answer_in number reply.now) }
 {
-    let (recorded, rest) = read_word(words)?;
-    let (expected, rest) = read_words(rest, 6)?;
-    Ok((number == recorded && holds(reply, expected), rest))
+    let recorded = read_word(input)?;
+    let expected = read_words(alloc, input, 6)?;
+    Ok(number == recorded && holds(reply, &expected))
 }
 
 // Reads the answer, the list and the map that the call should give, and compares.
 #[tactic(auto, unfolding(crate::specs::Vector::recorded_in))]
-fn recorded<'a>(
+fn recorded<R: Read>(
+    alloc: Global,
+    input: &mut R,
     number: u64,
     reply: &[u64; 6],
     optimized: &[u64],
     map: &[u64],
-    words: &'a [u64],
-) -> Result<(bool, &'a [u64]), Flaw>
-    ensures { Reads (λ x. (x.0, x.1.now)) result
-        (recorded_in number reply.now optimized.now map.now words.now) }
+) -> Result<bool, ReplayError>
+    ensures { Reads (λ agrees. agrees) result (R.remaining input.old) (R.remaining input.new)
+        (recorded_in number reply.now optimized.now map.now) }
 {
-    let (answer, rest) = answer_agrees(number, reply, words)?;
-    let (list, rest) = buffer_agrees(optimized, rest)?;
-    let (marks, rest) = buffer_agrees(map, rest)?;
-    Ok((answer & list & marks, rest))
+    let answer = answer_agrees(alloc, input, number, reply)?;
+    let list = buffer_agrees(alloc, input, LONGEST, optimized)?;
+    let marks = buffer_agrees(alloc, input, LONGEST, map)?;
+    Ok(answer & list & marks)
 }
 
 // Reads the next list and replays it, in outputs with no zero in them; whether it agrees.
 #[tactic(auto, unfolding(crate::specs::Vector::agreement))]
-fn replay_next(alloc: Global, words: &[u64]) -> Result<(bool, &[u64]), ReplayError>
-    ensures { Replays result (agreement words.now) }
+fn replay_next<R: Read>(alloc: Global, input: &mut R) -> Result<bool, ReplayError>
+    ensures { Reads (λ agrees. agrees) result
+        (R.remaining input.old) (R.remaining input.new) agreement }
 {
-    let (head, rest) = read_head(words)?;
-    let (operations, rest) = read_words(rest, head[1])?;
-    let (prefixes, rest) = read_words(rest, head[2])?;
+    let head = read_head(alloc, input)?;
+    let operations = read_words(alloc, input, head[1])?;
+    let prefixes = read_words(alloc, input, head[2])?;
     let mut optimized = vec![in alloc; 7u64; head[3] as usize]?;
     let mut map = vec![in alloc; 7u64; head[4] as usize]?;
     let mut reply = [7u64; 6];
     let number = midvokt_optimize(
         head[0],
-        operations,
-        prefixes,
+        &operations,
+        &prefixes,
         &mut optimized,
         &mut map,
         &mut reply,
     );
-    Ok(recorded(number, &reply, &optimized, &map, rest)?)
+    recorded(alloc, input, number, &reply, &optimized, &map)
 }
 
 // Lists of pending operations with the answers of optimizing.
@@ -106,13 +111,14 @@ struct ListVector;
 impl Vector for ListVector {
     ghost agreement = { agreement };
 
-    fn replay(alloc: Global, words: &[u64]) -> Result<(bool, &[u64]), ReplayError> {
-        replay_next(alloc, words)
+    fn replay<R: Read>(alloc: Global, input: &mut R) -> Result<bool, ReplayError> {
+        replay_next(alloc, input)
     }
 }
 
 // Replays the vectors of standard input.
 fn main(rt: HostRuntime) -> io::Result<()> {
-    replay_vectors::<ListVector, _>(&rt, rt.alloc(), &mut rt.reader())?;
+    let mut input = BufReader::new(rt.alloc(), rt.reader())?;
+    replay_vectors::<ListVector, _>(&rt, rt.alloc(), &mut input)?;
     Ok(())
 }

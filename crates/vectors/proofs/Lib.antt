@@ -1,2 +1,3 @@
 mod Same
 mod Counting
+mod Words

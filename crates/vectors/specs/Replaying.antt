@@ -1,22 +1,8 @@
 -- What replaying a list of vectors gives.
-use Rattle.std.specs.Prelude.{ℕ, zero, suc, ◌≡◌, ◌/◌, Bool, not, ⊤, List, [], ◌∷◌, length, Result, Ok, Err}
+use Rattle.std.specs.Prelude.{ℕ, zero, suc, Bool, not, List, [], ◌∷◌, Ok, Err}
 use Rattle.std.specs.List.{count_by}
-use Rattle.std.specs.Borrow.{Bor}
 use Rattle.vectors.specs.Reading.{Read}
 use Rattle.vectors.specs.declared.Counts.{Counts}
-use Rattle.vectors.specs.declared.ReplayError.{ReplayError}
-use Rattle.vectors.specs.declared.ReplayError.TheVariants.{Flawed, Memory}
-use Rattle.words.specs.File.{words_at}
-
--- what a function returned is what reading gives, unless memory ran out
-abbrev pub Replays : Result (Bool × Bor (List ℕ)) ReplayError → Read Bool → Type 0
-Replays (Ok x) read = read ≡ Ok (x.0, x.1.now)
-Replays (Err (Flawed flaw)) read = read ≡ Err flaw
-Replays (Err (Memory error)) read = ⊤
-
--- the words of these bytes, eight bytes each, with no part of a word at the end
-abbrev pub words_of : List ℕ → List ℕ
-words_of bytes = words_at bytes 0 (length bytes / 8)
 
 -- for each of so many vectors whether it agrees, up to the first that cannot be read
 abbrev pub agreements : (List ℕ → Read Bool) → ℕ → List ℕ → List Bool

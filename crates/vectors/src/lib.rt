@@ -2,18 +2,16 @@
 //! that replay them share.
 #![tactic(auto)]
 
-ghost use Rattle.std.specs.Prelude.{◌≡◌, ◌<◌, ◌+◌, ◌^◌, ℕ, Bool, List, length, IfOk, IfSome, if◌then◌else◌};
-ghost use Rattle.vectors.specs.declared.ReplayError.TheVariants.{Flawed, Memory};
-ghost use Rattle.vectors.specs.Reading.{Read, Reads, word_in, words_in, holds, buffer_in};
-ghost use Rattle.vectors.specs.Replaying.{Replays, words_of, agreements, agreements_in, counts_of};
+ghost use Rattle.std.specs.Prelude.{◌≡◌, ◌<◌, ◌≤◌, ◌+◌, ◌^◌, ℕ, Bool, List, length, take, IfOk, IsSome, IfSome, if◌then◌else◌};
+ghost use Rattle.std.specs.Io.KnownBytes.{Consumes, IsAtEnd};
+ghost use Rattle.vectors.specs.declared.ReplayError.TheVariants.{Flawed, Memory, Io};
+ghost use Rattle.vectors.specs.Reading.{Read, Reads, words_of, left_of, word_in, words_in, holds, buffer_in};
+ghost use Rattle.vectors.specs.Replaying.{agreements, agreements_in, counts_of};
 
 use std::alloc::{AllocError, Global};
-use std::io::Read;
+use std::io::{ErrorKind, Read};
 use std::{fmt, io};
-use words::file::get_words;
-
-// The most words of a list in a vector.
-const LONGEST: u64 = 65536;
+use words::file::word_at;
 
 /// What is wrong with a vector.
 #[derive(Clone, Copy, Debug, PartialEq, Eq)]
@@ -36,6 +34,7 @@ impl fmt::Display for Flaw {
 pub enum ReplayError {
     Flawed(Flaw),
     Memory(AllocError),
+    Io(io::Error),
 }
 
 impl From<Flaw> for ReplayError {
@@ -51,6 +50,27 @@ impl From<AllocError> for ReplayError {
 
     fn from(error: AllocError) -> ReplayError {
         ReplayError::Memory(error)
+    }
+}
+
+impl From<io::Error> for ReplayError {
+    ghost from_gives = { λ failed error. error ≡ Io failed };
+
+    fn from(error: io::Error) -> ReplayError {
+        ReplayError::Io(error)
+    }
+}
+
+impl ReplayError {
+    // The flaw, or what kept a vector from being read or replayed.
+    fn flaw(self) -> io::Result<Flaw>
+        ensures { IfOk result (λ flaw. self ≡ Flawed flaw) }
+    {
+        match self {
+            ReplayError::Flawed(flaw) => Ok(flaw),
+            ReplayError::Memory(error) => Err(io::Error::from(error)),
+            ReplayError::Io(error) => Err(error),
+        }
     }
 }
 
@@ -83,22 +103,59 @@ impl Counts {
     }
 }
 
-/// Reads the word at the front; it comes with the words behind it.
-pub fn read_word(words: &[u64]) -> Result<(u64, &[u64]), Flaw>
-    ensures { Reads (λ x. (x.0, x.1.now)) result (word_in words.now) }
+// Reads bytes until they are full or the input ends; how many were read.
+fn fill<R: Read>(input: &mut R, bytes: &mut [u8]) -> io::Result<usize>
+    ensures within { IfOk result (λ n. n ≤ length bytes.new) }
+    ensures bytes { IfOk result (λ n.
+        Consumes (R.remaining input.old) (R.remaining input.new) (take n bytes.new)) }
+    ensures end { IfOk result (λ n. n < length bytes.new → IsAtEnd (R.remaining input.new)) }
+    ensures room { length bytes.new ≡ length bytes.old }
 {
-    match words.split_first() {
-        Some((word, rest)) => Ok((*word, rest)),
-        None => Err(Flaw::CutShort),
+    let mut at = 0;
+    for _ in 0..u64::MAX {
+        if at >= bytes.len() {
+            return Ok(at);
+        }
+        match input.read(&mut bytes[at..]) {
+            Ok(0) => return Ok(at),
+            Ok(n) => at += n,
+            Err(error) if error.kind() == ErrorKind::Interrupted => {}
+            Err(error) => return Err(error),
+        }
     }
+    Err(io::Error::from(ErrorKind::TimedOut))
 }
 
-/// Reads so many words from the front; they come with the words behind them.
-pub fn read_words(words: &[u64], count: u64) -> Result<(&[u64], &[u64]), Flaw>
-    ensures words { Reads (λ x. (x.0.now, x.1.now)) result (words_in count words.now) }
-    ensures many { IfOk result (λ x. length x.0.now ≡ count) }
+/// Reads the next word.
+pub fn read_word<R: Read>(input: &mut R) -> Result<u64, ReplayError>
+    ensures { Reads (λ word. word) result (R.remaining input.old) (R.remaining input.new) word_in }
 {
-    words.split_at_checked(count as usize).ok_or(Flaw::CutShort)
+    let mut bytes = [0u8; 8];
+    let read = fill(input, &mut bytes)?;
+    if read < 8 {
+        return Err(ReplayError::Flawed(Flaw::CutShort));
+    }
+    Ok(word_at(&bytes, 0))
+}
+
+/// Reads so many words.
+pub fn read_words<R: Read>(
+    alloc: Global,
+    input: &mut R,
+    count: u64,
+) -> Result<Vec<u64>, ReplayError>
+    ensures words { Reads (λ words. words.items) result
+        (R.remaining input.old) (R.remaining input.new) (words_in count) }
+    ensures many { IfOk result (λ words. length words.items ≡ count) }
+{
+    let mut words = Vec::new(alloc);
+    for _ in 0..count {
+        let word = read_word(input)?;
+        if let Err(error) = words.push(word) {
+            return Err(ReplayError::Memory(AllocError::from(error)));
+        }
+    }
+    Ok(words)
 }
 
 /// Whether a buffer holds the used words and zeros behind them, and nothing else.
@@ -117,16 +174,22 @@ pub fn holds(buffer: &[u64], used: &[u64]) -> bool
 }
 
 #[tactic(auto, unfolding(crate::specs::Reading::buffer_in, crate::specs::Reading::counted_in))]
-/// Reads a count and so many words, and compares a buffer with them.
-pub fn buffer_agrees<'a>(buffer: &[u64], words: &'a [u64]) -> Result<(bool, &'a [u64]), Flaw>
-    ensures { Reads (λ x. (x.0, x.1.now)) result (buffer_in buffer.now words.now) }
+/// Reads a count up to a limit and so many words, and compares a buffer with them.
+pub fn buffer_agrees<R: Read>(
+    alloc: Global,
+    input: &mut R,
+    limit: u64,
+    buffer: &[u64],
+) -> Result<bool, ReplayError>
+    ensures { Reads (λ agrees. agrees) result
+        (R.remaining input.old) (R.remaining input.new) (buffer_in limit buffer.now) }
 {
-    let (count, rest) = read_word(words)?;
-    if LONGEST < count {
-        return Err(Flaw::TooLong);
+    let count = read_word(input)?;
+    if limit < count {
+        return Err(ReplayError::Flawed(Flaw::TooLong));
     }
-    let (used, rest) = read_words(rest, count)?;
-    Ok((holds(buffer, used), rest))
+    let used = read_words(alloc, input, count)?;
+    Ok(holds(buffer, &used))
 }
 
 /// A kind of vectors.
@@ -134,9 +197,10 @@ pub trait Vector {
     // Whether the vector at the front agrees, and the words behind it.
     ghost agreement: { List ℕ → Read Bool };
 
-    /// Reads the vector at the front and replays it; whether it agrees comes with the words behind.
-    fn replay(alloc: Global, words: &[u64]) -> Result<(bool, &[u64]), ReplayError>
-        ensures { Replays result (agreement words.now) };
+    /// Reads the next vector and replays it; whether it agrees.
+    fn replay<R: Read>(alloc: Global, input: &mut R) -> Result<bool, ReplayError>
+        ensures { Reads (λ agrees. agrees) result
+            (R.remaining input.old) (R.remaining input.new) agreement };
 }
 
 // Prints that vector i differs, and nothing of one that agrees.
@@ -157,46 +221,32 @@ fn tell_flaw(rt: &impl Print, i: u64, flaw: Flaw) -> io::Result<()> {
 }
 
 // Replays that many vectors, up to the first that cannot be read, and prints which differ.
-fn replay_all<V: Vector>(
+fn replay_all<V: Vector, R: Read>(
     rt: &impl Print,
     alloc: Global,
-    words: &[u64],
+    input: &mut R,
     count: u64,
 ) -> io::Result<Counts>
-    ensures { IfOk result (λ counts. counts ≡ counts_of (agreements V.agreement count words.now)) }
+    ensures { IfOk result (λ counts. IsSome (R.remaining input.old)
+        → counts ≡ counts_of (agreements V.agreement count (left_of (R.remaining input.old)))) }
 {
     let mut counts = Counts {
         agree: 0,
         differ: 0,
     };
-    let mut rest = words;
     for i in 0..count {
-        match V::replay(alloc, rest) {
-            Ok((agrees, behind)) => {
+        match V::replay(alloc, input) {
+            Ok(agrees) => {
                 counts = counts.with(agrees);
-                rest = behind;
                 tell(rt, i, agrees)?;
             }
-            Err(ReplayError::Memory(error)) => return Err(io::Error::from(error)),
-            Err(ReplayError::Flawed(flaw)) => {
-                tell_flaw(rt, i, flaw)?;
+            Err(error) => {
+                tell_flaw(rt, i, error.flaw()?)?;
                 return Ok(counts);
             }
         }
     }
     Ok(counts)
-}
-
-// Reads the words of all bytes that are left.
-fn read_all<R: Read>(alloc: Global, input: &mut R) -> io::Result<Vec<u64>>
-    ensures { IfOk result (λ words. IfSome (R.remaining input.old)
-        (λ bytes. words.items ≡ words_of bytes)) }
-{
-    let mut bytes = Vec::new(alloc);
-    input.read_to_end(&mut bytes)?;
-    let mut words = vec![in alloc; 0u64; bytes.len() / 8]?;
-    get_words(&bytes, 0, &mut words);
-    Ok(words)
 }
 
 /// Replays a list of vectors that begins with their number, prints how many agree and how many
@@ -209,17 +259,17 @@ pub fn replay_vectors<V: Vector, R: Read>(
     ensures { IfOk result (λ counts. IfSome (R.remaining input.old)
         (λ bytes. counts ≡ counts_of (agreements_in V.agreement (words_of bytes)))) }
 {
-    let words = read_all(alloc, input)?;
-    match read_word(&words) {
-        Ok((count, rest)) => {
-            let counts = replay_all::<V>(rt, alloc, rest, count)?;
+    match read_word(input) {
+        Ok(count) => {
+            let counts = replay_all::<V, R>(rt, alloc, input, count)?;
             println!(rt;
                 "{count} vectors: {} agree, {} differ",
                 counts.agree, counts.differ
             )?;
             Ok(counts)
         }
-        Err(flaw) => {
+        Err(error) => {
+            let flaw = error.flaw()?;
             println!(rt; "{flaw} before its first vector")?;
             Ok(Counts {
                 agree: 0,

@@ -1,22 +1,45 @@
 -- A vector that is replayed is the first of those that are left, and is counted.
-use Rattle.std.proofs.Common.{arith, ◌≡◌, ◌+◌, ◌-◌, ap, ◌∙◌, suc, Bool}
+use Rattle.std.proofs.Common.{arith, ◌≡◌, ◌+◌, ◌-◌, ap, ◌∙◌, suc, ℕ, Bool, Err}
 use Rattle.std.specs.Prelude.{not}
 use Rattle.std.specs.List.{count_by}
+use Rattle.vectors.specs.Reading.{left_of}
 use Rattle.vectors.specs.Replaying.{agreements}
-use Rattle.vectors.proofs.Counting.{one_more, one_agrees, one_differs, one_at_most}
+use Rattle.vectors.proofs.Counting.{one_more, no_more, all_counted, one_agrees, one_differs, one_at_most}
 use Rattle.vectors.proofs.replay_all.Goals as goal
+
+pub returns-in-Err : goal.returns-in-Err
+returns-in-Err g c = λ known.
+    let f = g.V.Vector.agreement in
+    let was = c.loop-i.invariant.replayed known in
+    let rest = left_of (g.R.Read.remaining c.loop-i.input) in
+    let left : ℕ = c.args.count - c.loop-i.i in
+    let told : f rest ≡ Err c.in_ok-flaw-in-Err.field-0 = (rw c.in_ok-flaw-in-Err.ensures at c.in-Err.ensures) was.0 in
+    let none = no_more f left rest c.in_ok-flaw-in-Err.field-0 told in
+    let agree : count_by (λ (b : Bool). b) (agreements f left rest) ≡ 0 = ap (count_by (λ (b : Bool). b)) none in
+    let differ : count_by not (agreements f left rest) ≡ 0 = ap (count_by not) none in
+    all_counted c.loop-i.counts (agreements f c.args.count (left_of (g.R.Read.remaining c.args.input.now))) (omega (arith, agree, was.1.agree)) (omega (arith, differ, was.1.differ))
 
 pub loop-i-preserved : goal.loop-i-preserved
 loop-i-preserved g c =
     let f = g.V.Vector.agreement in
     let left : c.args.count - c.loop-i.i ≡ suc (c.args.count - (c.loop-i.i + 1)) = omega arith in
-    let behind = agreements f (c.args.count - (c.loop-i.i + 1)) c.in-Ok.behind.now in
-    let more = one_more f (c.args.count - c.loop-i.i) (c.args.count - (c.loop-i.i + 1)) c.loop-i.rest.now c.in-Ok.behind.now c.in-Ok.agrees left c.in-Ok.ensures in
-    let agree = ap (count_by (λ (b : Bool). b)) more ∙ one_agrees c.in-Ok.agrees behind in
-    let differ = ap (count_by not) more ∙ one_differs c.in-Ok.agrees behind in
+    let bound = one_at_most c.in-Ok.agrees in
     record {
-      agree_bound = omega (arith, (one_at_most c.in-Ok.agrees).0, c.loop-i.invariant.agree_bound, c.with-counts.ensures.agree);
-      differ_bound = omega (arith, (one_at_most c.in-Ok.agrees).1, c.loop-i.invariant.differ_bound, c.with-counts.ensures.differ);
-      agree = omega (arith, agree, c.loop-i.invariant.agree, c.with-counts.ensures.agree);
-      differ = omega (arith, differ, c.loop-i.invariant.differ, c.with-counts.ensures.differ);
+      agree_bound = omega (arith, bound.0, c.loop-i.invariant.agree_bound, c.with-counts.ensures.agree);
+      differ_bound = omega (arith, bound.1, c.loop-i.invariant.differ_bound, c.with-counts.ensures.differ);
+      replayed = λ known.
+          let was = c.loop-i.invariant.replayed known in
+          let told = c.in-Ok.ensures was.0 in
+          let rest = left_of (g.R.Read.remaining c.loop-i.input) in
+          let behind = left_of (g.R.Read.remaining c.replay.new.input) in
+          let last = agreements f (c.args.count - (c.loop-i.i + 1)) behind in
+          let more = one_more f (c.args.count - c.loop-i.i) (c.args.count - (c.loop-i.i + 1)) rest behind c.in-Ok.agrees left told.1 in
+          let agree = ap (count_by (λ (b : Bool). b)) more ∙ one_agrees c.in-Ok.agrees last in
+          let differ = ap (count_by not) more ∙ one_differs c.in-Ok.agrees last in (
+            told.0,
+            record {
+              agree = omega (arith, agree, was.1.agree, c.with-counts.ensures.agree);
+              differ = omega (arith, differ, was.1.differ, c.with-counts.ensures.differ);
+            },
+          );
     }
