@@ -1,5 +1,5 @@
 -- The words of bytes, and what is read and left of them.
-use Rattle.std.proofs.Common.{◌≡◌, ◌≤◌, ◌<◌, ◌+◌, ◌-◌, ◌*◌, ◌/◌, zero, suc, refl, sym, ap, ap₂, ◌∙◌, arith, ℕ, List, [], ◌∷◌, ◌++◌, length, take, drop, Option, Some, None, Ok, Err, Bool, cond, append-nil, length-append, subst, take_all}
+use Rattle.std.proofs.Common.{◌≡◌, ◌≤◌, ◌<◌, ◌+◌, ◌-◌, ◌*◌, ◌/◌, zero, suc, refl, sym, ap, ap₂, ◌∙◌, arith, ℕ, List, [], ◌∷◌, ◌++◌, length, take, drop, Option, Some, None, Ok, Err, Bool, cond, append_assoc, append-nil, length-append, subst, take_all}
 use Rattle.std.specs.Prelude.{IsSome}
 use Rattle.std.proofs.Math.Seq.{drop-append-add, take-append-add}
 use Rattle.std.proofs.lemmas.List.{take-append-le, length-take-le}
@@ -7,7 +7,7 @@ use Rattle.std.specs.Io.KnownBytes.{Consumes, IsAtEnd}
 use Rattle.std.proofs.KnownBytes.{Consumes-trans}
 use borrow.Rule.Slice.PartMut.{put_mid, post_of}
 use Rattle.words.specs.File.{number_of, word_at, words_at}
-use Rattle.vectors.specs.Reading.{words_of, left_of, word_in}
+use Rattle.vectors.specs.Reading.{Read, words_of, left_of, word_in}
 use Rattle.vectors.specs.declared.Flaw.TheVariants.{CutShort}
 
 -- ---- bytes
@@ -71,3 +71,19 @@ word_cut (Some xs) (Some ys) bs n within short took end known =
     let all : xs ≡ take n bs = took ∙ ap (λ (l : List ℕ). take n bs ++ l) end ∙ append-nil (take n bs) in
     let long : length xs ≡ n = ap (λ (l : List ℕ). length l) all ∙ length-take-le n bs within in
     ap word_in (words_none xs (omega (arith, long, short)))
+
+-- ---- several words
+
+abbrev listed : Read ℕ → List ℕ
+listed (Ok x) = x.0 ∷ x.1
+listed (Err flaw) = []
+
+-- a word that can be read stands in front
+word_front : (ws behind : List ℕ) (w : ℕ) → word_in ws ≡ Ok (w, behind) → ws ≡ w ∷ behind
+word_front [] behind w e = ap listed e
+word_front (v ∷ ws) behind w e = ap listed e
+
+-- words that were read, one more, and what is left
+pub word_added : (all xs rest behind : List ℕ) (w : ℕ) → all ≡ xs ++ rest → word_in rest ≡ Ok (w, behind) → all ≡ (xs ++ w ∷ []) ++ behind
+word_added all xs rest behind w e more =
+    e ∙ ap (λ (l : List ℕ). xs ++ l) (word_front rest behind w more) ∙ sym (append_assoc xs (w ∷ []) behind)
