@@ -87,3 +87,7 @@ word_front (v ∷ ws) behind w e = ap listed e
 pub word_added : (all xs rest behind : List ℕ) (w : ℕ) → all ≡ xs ++ rest → word_in rest ≡ Ok (w, behind) → all ≡ (xs ++ w ∷ []) ++ behind
 word_added all xs rest behind w e more =
     e ∙ ap (λ (l : List ℕ). xs ++ l) (word_front rest behind w more) ∙ sym (append_assoc xs (w ∷ []) behind)
+
+-- and they are one more
+pub one_longer : (xs : List ℕ) (w n : ℕ) → length xs ≡ n → length (xs ++ w ∷ []) ≡ n + 1
+one_longer xs w n many = length-append xs (w ∷ []) ∙ ap (λ (k : ℕ). k + 1) many

@@ -26,18 +26,20 @@ abbrev pub left_of : Option (List ℕ) → List ℕ
 left_of None = []
 left_of (Some bytes) = words_of bytes
 
--- what a function returned, seen by `view`, is what reading gives, and of the input the words behind
--- are left, unless a read failed or memory ran out
-abbrev pub Gives : {X Y : Type 0} → (X → Y) → Result X ReplayError → Option (List ℕ) → Read Y → Type 0
+-- what a function returned, seen by `view`, is what reading gives, and the input has the words
+-- behind left, unless a read failed or memory ran out
+abbrev pub Gives : {X Y : Type 0} → (X → Y) → Result X ReplayError → Option (List ℕ) → Read Y
+    → Type 0
 Gives view (Ok x) after read = IsSome after × (read ≡ Ok (view x, left_of after))
 Gives view (Err (Flawed flaw)) after read = read ≡ Err flaw
 Gives view (Err (Memory error)) after read = ⊤
 Gives view (Err (Io error)) after read = ⊤
 
 -- the same of the words that an input has left before, if its bytes are known
-abbrev pub Reads : {X Y : Type 0} → (X → Y) → Result X ReplayError → Option (List ℕ) → Option (List ℕ)
-    → (List ℕ → Read Y) → Type 0
-Reads view result before after read = IsSome before → Gives view result after (read (left_of before))
+abbrev pub Reads : {X Y : Type 0} → (X → Y) → Result X ReplayError → Option (List ℕ)
+    → Option (List ℕ) → (List ℕ → Read Y) → Type 0
+Reads view result before after read =
+    IsSome before → Gives view result after (read (left_of before))
 
 -- the word at the front
 abbrev pub word_in : List ℕ → Read ℕ

@@ -1,15 +1,12 @@
 -- The word that was read stood in front of those that were left.
-use Rattle.std.proofs.Common.{ap, arith, ℕ, List, [], ◌∷◌, length, length-append}
-use Rattle.vectors.proofs.Words.{word_added}
+use Rattle.vectors.proofs.Words.{word_added, one_longer}
 use Rattle.vectors.proofs.read_words.Goals as goal
 
 pub loop-preserved : goal.loop-preserved
 loop-preserved g c =
     let xs = c.loop.words.items in
-    let grown = ap (λ (l : List ℕ). length l) c.in_default.ensures.items in
-    let one = length-append xs (c.in_ok-word.word ∷ []) in
     record {
-      many = omega (arith, grown, one, c.loop.invariant.many);
+      many = rw c.in_default.ensures.items (one_longer xs _ _ c.loop.invariant.many);
       read = λ known.
           let was = c.loop.invariant.read known in
           let word = c.in_ok-word.ensures was.0 in
