@@ -6,6 +6,6 @@ use Rattle.std.specs.List.{list_any}
 abbrev pub longest : ℕ
 longest = 4096
 
--- whether one of the number of record words and the seven buffer lengths is more
+-- whether one of the number of record words and the seven buffer lengths is more than that
 abbrev pub too_long : List ℕ → Bool
 too_long lengths = list_any (nat_lt longest) lengths

@@ -6,6 +6,6 @@ use Rattle.std.specs.List.{list_any}
 abbrev pub longest : ℕ
 longest = 65536
 
--- whether one of the numbers of words is more
+-- whether one of the numbers of words is more than that
 abbrev pub too_long : List ℕ → Bool
 too_long lengths = list_any (nat_lt longest) lengths
