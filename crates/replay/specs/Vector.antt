@@ -4,7 +4,7 @@ use Rattle.records.specs.declared.Head.{Head}
 use Rattle.plan_spec.specs.Plan.{Lengths, Result, plan_of}
 use Rattle.answer.specs.Outcome.{outcome_in}
 use Rattle.midvokt.specs.Reply.{number_of, words_of, laid_out}
-use Rattle.vectors.specs.Reading.{Read, ◌>>=◌, word_in, words_in, holds, buffer_in}
+use Rattle.vectors.specs.Reading.{Read, ◌>>=◌, word_in, words_in, holds, buffer_within}
 use Rattle.vectors.specs.declared.Flaw.TheVariants.{TooLong}
 use Rattle.replay.specs.Head.{longest, too_long}
 use Rattle.replay.specs.declared.Buffers.{Buffers as Lent}
@@ -69,13 +69,13 @@ answer_in number reply ws = do
 -- whether the seven buffers hold the recorded words
 unfoldable pub buffers_in : Buffers → List ℕ → Read Bool
 buffers_in b ws = do
-  steps ← buffer_in longest b.steps ws
-  merges ← buffer_in longest b.merges steps.1
-  sizes ← buffer_in longest b.sizes merges.1
-  rotations ← buffer_in longest b.rotations sizes.1
-  promotions ← buffer_in longest b.promotions rotations.1
-  measurements ← buffer_in longest b.measurements promotions.1
-  groups ← buffer_in longest b.groups measurements.1
+  steps ← buffer_within longest b.steps ws
+  merges ← buffer_within longest b.merges steps.1
+  sizes ← buffer_within longest b.sizes merges.1
+  rotations ← buffer_within longest b.rotations sizes.1
+  promotions ← buffer_within longest b.promotions rotations.1
+  measurements ← buffer_within longest b.measurements promotions.1
+  groups ← buffer_within longest b.groups measurements.1
   Ok (
     steps.0 && merges.0 && sizes.0 && rotations.0 && promotions.0 && measurements.0 && groups.0,
     groups.1,

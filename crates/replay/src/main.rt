@@ -5,7 +5,7 @@
 
 ghost use Rattle.std.specs.Prelude.{◌≡◌, length, IfOk};
 ghost use Rattle.midvokt.specs.Reply.{Replies};
-ghost use Rattle.vectors.specs.Reading.{Reads};
+ghost use Rattle.vectors.specs.Reading.{ReadsNext};
 ghost use Rattle.replay.specs.Head.{too_long};
 ghost use Rattle.replay.specs.Vector.{head_of, lengths_in, buffers_of, sevens, answer_in, buffers_in, recorded_in, head_in, agreement};
 
@@ -14,7 +14,8 @@ use std::alloc::{AllocError, Global};
 use std::io;
 use std::io::{BufReader, Read};
 use vectors::{
-    Flaw, ReplayError, Vector, buffer_agrees, holds, read_word, read_words, replay_vectors,
+    Flaw, ReplayError, StreamedVector, holds, next_buffer_agrees, next_word, next_words,
+    replay_streamed_vectors,
 };
 
 // The most words that the records or a buffer may have.
@@ -35,11 +36,11 @@ fn too_long(lengths: &[u64]) -> bool
 // Reads the twelve words of a head.
 #[tactic(auto, unfolding(crate::specs::Vector::head_in))]
 fn read_head<R: Read>(alloc: Global, input: &mut R) -> Result<Vec<u64>, ReplayError>
-    ensures head { Reads (λ head. head.items) result
+    ensures head { ReadsNext (λ head. head.items) result
         (R.remaining input.old) (R.remaining input.new) head_in }
     ensures twelve { IfOk result (λ head. length head.items ≡ 12) }
 {
-    let head = read_words(alloc, input, 12)?;
+    let head = next_words(alloc, input, 12)?;
     if too_long(&head[4..]) {
         Err(ReplayError::Flawed(Flaw::TooLong))
     } else {
@@ -55,11 +56,11 @@ fn answer_agrees<R: Read>(
     number: u64,
     reply: &[u64; 14],
 ) -> Result<bool, ReplayError>
-    ensures { Reads (λ agrees. agrees) result
+    ensures { ReadsNext (λ agrees. agrees) result
         (R.remaining input.old) (R.remaining input.new) (answer_in number reply.now) }
 {
-    let recorded = read_word(input)?;
-    let expected = read_words(alloc, input, 14)?;
+    let recorded = next_word(input)?;
+    let expected = next_words(alloc, input, 14)?;
     Ok(number == recorded && holds(reply, &expected))
 }
 
@@ -118,16 +119,16 @@ impl Buffers {
     // Reads what each buffer should hold, and compares every word.
     #[tactic(auto, unfolding(crate::specs::Vector::buffers_in))]
     fn agree<R: Read>(&self, alloc: Global, input: &mut R) -> Result<bool, ReplayError>
-        ensures { Reads (λ agrees. agrees) result
+        ensures { ReadsNext (λ agrees. agrees) result
             (R.remaining input.old) (R.remaining input.new) (buffers_in (buffers_of self.now)) }
     {
-        let steps = buffer_agrees(alloc, input, LONGEST, &self.steps)?;
-        let merges = buffer_agrees(alloc, input, LONGEST, &self.merges)?;
-        let sizes = buffer_agrees(alloc, input, LONGEST, &self.sizes)?;
-        let rotations = buffer_agrees(alloc, input, LONGEST, &self.rotations)?;
-        let promotions = buffer_agrees(alloc, input, LONGEST, &self.promotions)?;
-        let measurements = buffer_agrees(alloc, input, LONGEST, &self.measurements)?;
-        let groups = buffer_agrees(alloc, input, LONGEST, &self.groups)?;
+        let steps = next_buffer_agrees(alloc, input, LONGEST, &self.steps)?;
+        let merges = next_buffer_agrees(alloc, input, LONGEST, &self.merges)?;
+        let sizes = next_buffer_agrees(alloc, input, LONGEST, &self.sizes)?;
+        let rotations = next_buffer_agrees(alloc, input, LONGEST, &self.rotations)?;
+        let promotions = next_buffer_agrees(alloc, input, LONGEST, &self.promotions)?;
+        let measurements = next_buffer_agrees(alloc, input, LONGEST, &self.measurements)?;
+        let groups = next_buffer_agrees(alloc, input, LONGEST, &self.groups)?;
         Ok(steps & merges & sizes & rotations & promotions & measurements & groups)
     }
 
@@ -140,7 +141,8 @@ impl Buffers {
         number: u64,
         reply: &[u64; 14],
     ) -> Result<bool, ReplayError>
-        ensures { Reads (λ agrees. agrees) result (R.remaining input.old) (R.remaining input.new)
+        ensures { ReadsNext (λ agrees. agrees) result
+            (R.remaining input.old) (R.remaining input.new)
             (recorded_in number reply.now (buffers_of self.now)) }
     {
         let answer = answer_agrees(alloc, input, number, reply)?;
@@ -152,12 +154,12 @@ impl Buffers {
 // Reads the next vector and replays it; whether it agrees.
 #[tactic(auto, unfolding(crate::specs::Vector::agreement))]
 fn replay_next<R: Read>(alloc: Global, input: &mut R) -> Result<bool, ReplayError>
-    ensures { Reads (λ agrees. agrees) result
+    ensures { ReadsNext (λ agrees. agrees) result
         (R.remaining input.old) (R.remaining input.new) agreement }
 {
     let twelve = read_head(alloc, input)?;
     let head = twelve.as_slice();
-    let records = read_words(alloc, input, head[4])?;
+    let records = next_words(alloc, input, head[4])?;
     let mut buffers = Buffers::new(alloc, head)?;
     let mut reply = [7u64; 14];
     let number = buffers.plan(head, &records, &mut reply);
@@ -168,7 +170,7 @@ fn replay_next<R: Read>(alloc: Global, input: &mut R) -> Result<bool, ReplayErro
 #[derive(Clone, Copy)]
 struct PlanVector;
 
-impl Vector for PlanVector {
+impl StreamedVector for PlanVector {
     ghost agreement = { agreement };
 
     fn replay<R: Read>(alloc: Global, input: &mut R) -> Result<bool, ReplayError> {
@@ -179,6 +181,6 @@ impl Vector for PlanVector {
 // Replays the vectors of standard input.
 fn main(rt: HostRuntime) -> io::Result<()> {
     let mut input = BufReader::new(rt.alloc(), rt.reader())?;
-    replay_vectors::<PlanVector, _>(&rt, rt.alloc(), &mut input)?;
+    replay_streamed_vectors::<PlanVector, _>(&rt, rt.alloc(), &mut input)?;
     Ok(())
 }

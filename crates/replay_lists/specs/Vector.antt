@@ -5,7 +5,7 @@ use Rattle.optimizer_spec.specs.Optimizing.{Optimized, outcome_of}
 use Rattle.optimizer.specs.Answer.{told_in, list_in, map_in}
 use Rattle.midvokt.specs.Reply.{laid_out}
 use Rattle.midvokt.specs.Optimized.{optimize_number, optimize_words}
-use Rattle.vectors.specs.Reading.{Read, ◌>>=◌, word_in, words_in, holds, buffer_in}
+use Rattle.vectors.specs.Reading.{Read, ◌>>=◌, word_in, words_in, holds, buffer_within}
 use Rattle.vectors.specs.declared.Flaw.TheVariants.{TooLong}
 use Rattle.replay_lists.specs.Head.{longest, too_long}
 
@@ -20,8 +20,8 @@ answer_in number reply ws = do
 unfoldable pub recorded_in : ℕ → List ℕ → List ℕ → List ℕ → List ℕ → Read Bool
 recorded_in number reply optimized map ws = do
   answer ← answer_in number reply ws
-  list ← buffer_in longest optimized answer.1
-  marks ← buffer_in longest map list.1
+  list ← buffer_within longest optimized answer.1
+  marks ← buffer_within longest map list.1
   Ok (answer.0 && list.0 && marks.0, marks.1)
 
 -- the same of what optimizing answers, and leaves in a list and a map of these lengths

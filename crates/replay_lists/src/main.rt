@@ -4,7 +4,7 @@
 #![tactic(auto)]
 
 ghost use Rattle.std.specs.Prelude.{◌≡◌, length, IfOk};
-ghost use Rattle.vectors.specs.Reading.{Reads};
+ghost use Rattle.vectors.specs.Reading.{ReadsNext};
 ghost use Rattle.replay_lists.specs.Head.{too_long};
 ghost use Rattle.replay_lists.specs.Vector.{answer_in, recorded_in, head_in, agreement};
 
@@ -13,7 +13,8 @@ use std::alloc::Global;
 use std::io;
 use std::io::{BufReader, Read};
 use vectors::{
-    Flaw, ReplayError, Vector, buffer_agrees, holds, read_word, read_words, replay_vectors,
+    Flaw, ReplayError, StreamedVector, holds, next_buffer_agrees, next_word, next_words,
+    replay_streamed_vectors,
 };
 
 // The most words that a list, its prefixes, the lent list or the map may have.
@@ -34,11 +35,11 @@ fn too_long(lengths: &[u64]) -> bool
 // Reads the five words of a head.
 #[tactic(auto, unfolding(crate::specs::Vector::head_in))]
 fn read_head<R: Read>(alloc: Global, input: &mut R) -> Result<Vec<u64>, ReplayError>
-    ensures head { Reads (λ head. head.items) result
+    ensures head { ReadsNext (λ head. head.items) result
         (R.remaining input.old) (R.remaining input.new) head_in }
     ensures five { IfOk result (λ head. length head.items ≡ 5) }
 {
-    let head = read_words(alloc, input, 5)?;
+    let head = next_words(alloc, input, 5)?;
     if too_long(&head[1..]) {
         Err(ReplayError::Flawed(Flaw::TooLong))
     } else {
@@ -54,11 +55,11 @@ fn answer_agrees<R: Read>(
     number: u64,
     reply: &[u64; 6],
 ) -> Result<bool, ReplayError>
-    ensures { Reads (λ agrees. agrees) result
+    ensures { ReadsNext (λ agrees. agrees) result
         (R.remaining input.old) (R.remaining input.new) (answer_in number reply.now) }
 {
-    let recorded = read_word(input)?;
-    let expected = read_words(alloc, input, 6)?;
+    let recorded = next_word(input)?;
+    let expected = next_words(alloc, input, 6)?;
     Ok(number == recorded && holds(reply, &expected))
 }
 
@@ -72,24 +73,25 @@ fn recorded<R: Read>(
     optimized: &[u64],
     map: &[u64],
 ) -> Result<bool, ReplayError>
-    ensures { Reads (λ agrees. agrees) result (R.remaining input.old) (R.remaining input.new)
+    ensures { ReadsNext (λ agrees. agrees) result
+        (R.remaining input.old) (R.remaining input.new)
         (recorded_in number reply.now optimized.now map.now) }
 {
     let answer = answer_agrees(alloc, input, number, reply)?;
-    let list = buffer_agrees(alloc, input, LONGEST, optimized)?;
-    let marks = buffer_agrees(alloc, input, LONGEST, map)?;
+    let list = next_buffer_agrees(alloc, input, LONGEST, optimized)?;
+    let marks = next_buffer_agrees(alloc, input, LONGEST, map)?;
     Ok(answer & list & marks)
 }
 
 // Reads the next list and replays it, in outputs with no zero in them; whether it agrees.
 #[tactic(auto, unfolding(crate::specs::Vector::agreement))]
 fn replay_next<R: Read>(alloc: Global, input: &mut R) -> Result<bool, ReplayError>
-    ensures { Reads (λ agrees. agrees) result
+    ensures { ReadsNext (λ agrees. agrees) result
         (R.remaining input.old) (R.remaining input.new) agreement }
 {
     let head = read_head(alloc, input)?;
-    let operations = read_words(alloc, input, head[1])?;
-    let prefixes = read_words(alloc, input, head[2])?;
+    let operations = next_words(alloc, input, head[1])?;
+    let prefixes = next_words(alloc, input, head[2])?;
     let mut optimized = vec![in alloc; 7u64; head[3] as usize]?;
     let mut map = vec![in alloc; 7u64; head[4] as usize]?;
     let mut reply = [7u64; 6];
@@ -108,7 +110,7 @@ fn replay_next<R: Read>(alloc: Global, input: &mut R) -> Result<bool, ReplayErro
 #[derive(Clone, Copy)]
 struct ListVector;
 
-impl Vector for ListVector {
+impl StreamedVector for ListVector {
     ghost agreement = { agreement };
 
     fn replay<R: Read>(alloc: Global, input: &mut R) -> Result<bool, ReplayError> {
@@ -119,6 +121,6 @@ impl Vector for ListVector {
 // Replays the vectors of standard input.
 fn main(rt: HostRuntime) -> io::Result<()> {
     let mut input = BufReader::new(rt.alloc(), rt.reader())?;
-    replay_vectors::<ListVector, _>(&rt, rt.alloc(), &mut input)?;
+    replay_streamed_vectors::<ListVector, _>(&rt, rt.alloc(), &mut input)?;
     Ok(())
 }

@@ -1,12 +1,18 @@
 -- One more vector is replayed, or none can be read.
 use Rattle.std.proofs.Common.{◌≡◌, ℕ, zero, suc, ◌+◌, refl, ap, ◌∙◌, ◌≤◌, arith, List, [], ◌∷◌, Bool, true, false, cond, Ok, Err}
-use Rattle.std.specs.Prelude.{not}
+use Rattle.std.specs.Prelude.{not, Option, Some, None, IfSome}
 use Rattle.std.specs.List.{count_by}
 use Rattle.std.proofs.lemmas.List.Sums.{sum_by-cons}
-use Rattle.vectors.specs.Reading.{Read}
-use Rattle.vectors.specs.Replaying.{agreements, counts_of}
+use Rattle.vectors.specs.Reading.{Read, word_in}
+use Rattle.vectors.specs.Replaying.{agreements, agreements_in, counts_of}
 use Rattle.vectors.specs.declared.Counts.{Counts}
 use Rattle.vectors.specs.declared.Flaw.{Flaw}
+
+-- what is counted so far of all words and what is to come of the rest, with `left` vectors still to
+-- come, are what there is to count
+pub record Replayed (f : List ℕ → Read Bool) (words rest : List ℕ) (all left : ℕ) (counts : Counts) : Type 0 where
+  pub agree : counts.agree + count_by (λ (b : Bool). b) (agreements f left rest) ≡ count_by (λ (b : Bool). b) (agreements f all words)
+  pub differ : counts.differ + count_by not (agreements f left rest) ≡ count_by not (agreements f all words)
 
 -- the first of n vectors is the one at the front
 pub one_more : (f : List ℕ → Read Bool) (n m : ℕ) (ws behind : List ℕ) (b : Bool)
@@ -40,3 +46,13 @@ one_agrees b bs = sum_by-cons (λ (x : Bool). cond x 1 0) b bs
 pub one_at_most : (b : Bool) → (cond b 1 0 ≤ 1) × (cond b 0 1 ≤ 1)
 one_at_most true = (omega arith, omega arith)
 one_at_most false = (omega arith, omega arith)
+
+-- of no words no vector is counted
+pub none_counted : (f : List ℕ → Read Bool) (ws : List ℕ) (flaw : Flaw) → word_in ws ≡ Err flaw → ◌≡◌ {A = Counts} (record { agree = 0; differ = 0 }) (counts_of (agreements_in f ws))
+none_counted f [] flaw e = refl
+none_counted f (w ∷ ws) flaw e = let z : ◌≡◌ {A = ℕ} 0 1 = cc in absurd (omega arith)
+
+-- what holds of each known value that is so holds of the known value
+pub of_known : (known : Option (List ℕ)) (P Q : List ℕ → Type 0) → ((bytes : List ℕ) → P bytes → Q bytes) → IfSome known P → IfSome known Q
+of_known None P Q h p = tt
+of_known (Some bytes) P Q h p = h bytes p

@@ -26,6 +26,11 @@ abbrev pub left_of : Option (List ℕ) → List ℕ
 left_of None = []
 left_of (Some bytes) = words_of bytes
 
+-- what a function returned, seen by `view`, is what reading gives
+abbrev pub Reads : {X Y : Type 0} → (X → Y) → Result X Flaw → Result Y Flaw → Type 0
+Reads view (Ok x) read = read ≡ Ok (view x)
+Reads view (Err flaw) read = read ≡ Err flaw
+
 -- what a function returned, seen by `view`, is what reading gives, and the input has the words
 -- behind left, unless a read failed or memory ran out
 abbrev pub Gives : {X Y : Type 0} → (X → Y) → Result X ReplayError → Option (List ℕ) → Read Y
@@ -36,9 +41,9 @@ Gives view (Err (Memory error)) after read = ⊤
 Gives view (Err (Io error)) after read = ⊤
 
 -- the same of the words that an input has left before, if its bytes are known
-abbrev pub Reads : {X Y : Type 0} → (X → Y) → Result X ReplayError → Option (List ℕ)
+abbrev pub ReadsNext : {X Y : Type 0} → (X → Y) → Result X ReplayError → Option (List ℕ)
     → Option (List ℕ) → (List ℕ → Read Y) → Type 0
-Reads view result before after read =
+ReadsNext view result before after read =
     IsSome before → Gives view result after (read (left_of before))
 
 -- the word at the front
@@ -51,10 +56,16 @@ abbrev pub words_in : ℕ → List ℕ → Read (List ℕ)
 words_in n ws = if nat_lt (length ws) n then Err CutShort else Ok (take n ws, drop n ws)
 
 -- a count up to a limit, and behind it so many words
-unfoldable pub counted_in : ℕ → List ℕ → Read (List ℕ)
-counted_in limit ws = do
+unfoldable pub counted_within : ℕ → List ℕ → Read (List ℕ)
+counted_within limit ws = do
   count ← word_in ws
   if nat_lt limit count.0 then Err TooLong else words_in count.0 count.1
+
+-- a count of at most 65536, and behind it so many words
+unfoldable pub counted_in : List ℕ → Read (List ℕ)
+counted_in ws = do
+  count ← word_in ws
+  if nat_lt 65536 count.0 then Err TooLong else words_in count.0 count.1
 
 -- whether two lists of words are the same
 abbrev pub same_words : List ℕ → List ℕ → Bool
@@ -65,7 +76,13 @@ abbrev pub holds : List ℕ → List ℕ → Bool
 holds buffer used = same_words buffer (padded (length buffer) used)
 
 -- whether a buffer holds the words that are listed, up to a limit
-unfoldable pub buffer_in : ℕ → List ℕ → List ℕ → Read Bool
-buffer_in limit buffer ws = do
-  used ← counted_in limit ws
+unfoldable pub buffer_within : ℕ → List ℕ → List ℕ → Read Bool
+buffer_within limit buffer ws = do
+  used ← counted_within limit ws
+  Ok (holds buffer used.0, used.1)
+
+-- whether a buffer holds the words that are listed
+unfoldable pub buffer_in : List ℕ → List ℕ → Read Bool
+buffer_in buffer ws = do
+  used ← counted_in ws
   Ok (holds buffer used.0, used.1)

@@ -1,17 +1,24 @@
 //! Fixed vectors, read from words of eight bytes, and how many of them agree: what the programs
-//! that replay them share.
+//! that replay them share. Words are read from an input as they come; in `in_memory` they are in
+//! memory first.
 #![tactic(auto)]
 
 ghost use Rattle.std.specs.Prelude.{◌≡◌, ◌<◌, ◌≤◌, ◌+◌, ◌^◌, ℕ, Bool, List, length, take, IfOk, IsSome, IfSome, if◌then◌else◌};
 ghost use Rattle.std.specs.Io.KnownBytes.{Consumes, IsAtEnd};
 ghost use Rattle.vectors.specs.declared.ReplayError.TheVariants.{Flawed, Memory, Io};
-ghost use Rattle.vectors.specs.Reading.{Read, Reads, words_of, left_of, word_in, words_in, holds, buffer_in};
+ghost use Rattle.vectors.specs.Reading.{Read, ReadsNext, words_of, left_of, word_in, words_in, holds, buffer_within};
 ghost use Rattle.vectors.specs.Replaying.{agreements, agreements_in, counts_of};
 
 use std::alloc::{AllocError, Global};
 use std::io::{ErrorKind, Read};
 use std::{fmt, io};
 use words::file::word_at;
+
+mod in_memory;
+#[cfg(test)]
+mod tests;
+
+pub use in_memory::{Vector, buffer_agrees, read_word, read_words, replay_vectors};
 
 /// What is wrong with a vector.
 #[derive(Clone, Copy, Debug, PartialEq, Eq)]
@@ -127,8 +134,9 @@ fn fill<R: Read>(input: &mut R, bytes: &mut [u8]) -> io::Result<usize>
 }
 
 /// Reads the next word.
-pub fn read_word<R: Read>(input: &mut R) -> Result<u64, ReplayError>
-    ensures { Reads (λ word. word) result (R.remaining input.old) (R.remaining input.new) word_in }
+pub fn next_word<R: Read>(input: &mut R) -> Result<u64, ReplayError>
+    ensures { ReadsNext (λ word. word) result
+        (R.remaining input.old) (R.remaining input.new) word_in }
 {
     let mut bytes = [0u8; 8];
     let read = fill(input, &mut bytes)?;
@@ -139,18 +147,18 @@ pub fn read_word<R: Read>(input: &mut R) -> Result<u64, ReplayError>
 }
 
 /// Reads so many words.
-pub fn read_words<R: Read>(
+pub fn next_words<R: Read>(
     alloc: Global,
     input: &mut R,
     count: u64,
 ) -> Result<Vec<u64>, ReplayError>
-    ensures words { Reads (λ words. words.items) result
+    ensures words { ReadsNext (λ words. words.items) result
         (R.remaining input.old) (R.remaining input.new) (words_in count) }
     ensures many { IfOk result (λ words. length words.items ≡ count) }
 {
     let mut words = Vec::new(alloc);
     for _ in 0..count {
-        let word = read_word(input)?;
+        let word = next_word(input)?;
         if let Err(error) = words.push(word) {
             return Err(ReplayError::Memory(AllocError::from(error)));
         }
@@ -173,33 +181,33 @@ pub fn holds(buffer: &[u64], used: &[u64]) -> bool
     true
 }
 
-#[tactic(auto, unfolding(crate::specs::Reading::buffer_in, crate::specs::Reading::counted_in))]
+#[tactic(auto, unfolding(crate::specs::Reading::buffer_within, crate::specs::Reading::counted_within))]
 /// Reads a count up to a limit and so many words, and compares a buffer with them.
-pub fn buffer_agrees<R: Read>(
+pub fn next_buffer_agrees<R: Read>(
     alloc: Global,
     input: &mut R,
     limit: u64,
     buffer: &[u64],
 ) -> Result<bool, ReplayError>
-    ensures { Reads (λ agrees. agrees) result
-        (R.remaining input.old) (R.remaining input.new) (buffer_in limit buffer.now) }
+    ensures { ReadsNext (λ agrees. agrees) result
+        (R.remaining input.old) (R.remaining input.new) (buffer_within limit buffer.now) }
 {
-    let count = read_word(input)?;
+    let count = next_word(input)?;
     if limit < count {
         return Err(ReplayError::Flawed(Flaw::TooLong));
     }
-    let used = read_words(alloc, input, count)?;
+    let used = next_words(alloc, input, count)?;
     Ok(holds(buffer, &used))
 }
 
-/// A kind of vectors.
-pub trait Vector {
+/// A kind of vectors that are read from an input as they come.
+pub trait StreamedVector {
     // Whether the vector at the front agrees, and the words behind it.
     ghost agreement: { List ℕ → Read Bool };
 
     /// Reads the next vector and replays it; whether it agrees.
     fn replay<R: Read>(alloc: Global, input: &mut R) -> Result<bool, ReplayError>
-        ensures { Reads (λ agrees. agrees) result
+        ensures { ReadsNext (λ agrees. agrees) result
             (R.remaining input.old) (R.remaining input.new) agreement };
 }
 
@@ -221,7 +229,7 @@ fn tell_flaw(rt: &impl Print, i: u64, flaw: Flaw) -> io::Result<()> {
 }
 
 // Replays that many vectors, up to the first that cannot be read, and prints which differ.
-fn replay_all<V: Vector, R: Read>(
+fn replay_all<V: StreamedVector, R: Read>(
     rt: &impl Print,
     alloc: Global,
     input: &mut R,
@@ -249,9 +257,9 @@ fn replay_all<V: Vector, R: Read>(
     Ok(counts)
 }
 
-/// Replays a list of vectors that begins with their number, prints how many agree and how many
-/// differ, and gives both.
-pub fn replay_vectors<V: Vector, R: Read>(
+/// Replays a list of vectors that begins with their number, each as it comes, prints how many agree
+/// and how many differ, and gives both.
+pub fn replay_streamed_vectors<V: StreamedVector, R: Read>(
     rt: &impl Print,
     alloc: Global,
     input: &mut R,
@@ -259,7 +267,7 @@ pub fn replay_vectors<V: Vector, R: Read>(
     ensures { IfOk result (λ counts. IfSome (R.remaining input.old)
         (λ bytes. counts ≡ counts_of (agreements_in V.agreement (words_of bytes)))) }
 {
-    match read_word(input) {
+    match next_word(input) {
         Ok(count) => {
             let counts = replay_all::<V, R>(rt, alloc, input, count)?;
             println!(rt;

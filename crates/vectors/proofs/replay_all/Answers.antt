@@ -9,7 +9,7 @@ use Rattle.vectors.proofs.replay_all.Goals as goal
 
 pub returns-in-Err : goal.returns-in-Err
 returns-in-Err g c = λ known.
-    let f = g.V.Vector.agreement in
+    let f = g.V.StreamedVector.agreement in
     let was = c.loop-i.invariant.replayed known in
     let rest = left_of (g.R.Read.remaining c.loop-i.input) in
     let left : ℕ = c.args.count - c.loop-i.i in
@@ -21,7 +21,7 @@ returns-in-Err g c = λ known.
 
 pub loop-i-preserved : goal.loop-i-preserved
 loop-i-preserved g c =
-    let f = g.V.Vector.agreement in
+    let f = g.V.StreamedVector.agreement in
     let left : c.args.count - c.loop-i.i ≡ suc (c.args.count - (c.loop-i.i + 1)) = omega arith in
     let bound = one_at_most c.in-Ok.agrees in
     record {

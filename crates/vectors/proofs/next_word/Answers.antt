@@ -1,7 +1,7 @@
 -- Eight bytes that were read are the first word, and of fewer the list ends.
 use Rattle.std.proofs.Common.{◌<◌, arith, length}
 use Rattle.vectors.proofs.Words.{word_read, word_cut}
-use Rattle.vectors.proofs.read_word.Goals as goal
+use Rattle.vectors.proofs.next_word.Goals as goal
 
 pub returns-then-read-lt8 : goal.returns-then-read-lt8
 returns-then-read-lt8 g c =

@@ -1,6 +1,6 @@
 -- The word that was read stood in front of those that were left.
 use Rattle.vectors.proofs.Words.{word_added, one_longer}
-use Rattle.vectors.proofs.read_words.Goals as goal
+use Rattle.vectors.proofs.next_words.Goals as goal
 
 pub loop-preserved : goal.loop-preserved
 loop-preserved g c =

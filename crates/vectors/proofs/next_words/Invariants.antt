@@ -2,7 +2,7 @@
 use Rattle.std.proofs.Common.{◌≡◌, ◌++◌, length}
 use Rattle.std.specs.Prelude.{IsSome}
 use Rattle.vectors.specs.Reading.{left_of}
-use Rattle.vectors.proofs.read_words.Given as goal
+use Rattle.vectors.proofs.next_words.Given as goal
 
 abbrev pub invariant-loop : goal.invariant-loop
 invariant-loop g l = record {
