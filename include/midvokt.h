@@ -124,7 +124,7 @@ extern "C" {
 #endif
 
 /* The project's version. */
-#define MIDVOKT_VERSION "0.8.2"
+#define MIDVOKT_VERSION "0.8.3"
 
 /* Bytes of stack that each call needs, whatever its arguments. At its worst a call was measured
  * to use 14,088 of them on x86-64: 10,872 of its own, and 3,216 where the system looks up
