@@ -56,3 +56,17 @@ none_counted f (w ∷ ws) flaw e = let z : ◌≡◌ {A = ℕ} 0 1 = cc in absur
 pub of_known : (known : Option (List ℕ)) (P Q : List ℕ → Type 0) → ((bytes : List ℕ) → P bytes → Q bytes) → IfSome known P → IfSome known Q
 of_known None P Q h p = tt
 of_known (Some bytes) P Q h p = h bytes p
+
+-- a vector at the front that is replayed and counted leaves those behind it to come
+pub one_counted : (f : List ℕ → Read Bool) (words rest behind : List ℕ) (all left more : ℕ) (counts next : Counts) (b : Bool)
+    → left ≡ suc more → f rest ≡ Ok (b, behind)
+    → next.agree ≡ counts.agree + cond b 1 0 → next.differ ≡ counts.differ + cond b 0 1
+    → Replayed f words rest all left counts → Replayed f words behind all more next
+one_counted f words rest behind all left more counts next b many front agree differ was =
+    let one = one_more f left more rest behind b many front in
+    let agrees = ap (count_by (λ (x : Bool). x)) one ∙ one_agrees b (agreements f more behind) in
+    let differs = ap (count_by not) one ∙ one_differs b (agreements f more behind) in
+    record {
+      agree = omega (arith, agrees, was.agree, agree);
+      differ = omega (arith, differs, was.differ, differ);
+    }

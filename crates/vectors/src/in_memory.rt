@@ -1,5 +1,5 @@
-//! The same of words in memory: what is read of them comes with the words behind it. A list of
-//! vectors is brought into memory whole, and then replayed.
+//! Fixed vectors of words in memory: what is read comes with the words behind it. A list of vectors
+//! is brought into memory whole, and then replayed.
 
 ghost use Rattle.std.specs.Prelude.{◌≡◌, Bool, List, ℕ, length, IfOk, IfSome};
 ghost use Rattle.vectors.specs.Reading.{Read, Reads, words_of, word_in, words_in, buffer_in};
@@ -76,10 +76,12 @@ fn replay_all<V: Vector>(
                 rest = behind;
                 tell(rt, i, agrees)?;
             }
-            Err(error) => {
-                tell_flaw(rt, i, error.flaw()?)?;
+            Err(ReplayError::Memory(error)) => return Err(io::Error::from(error)),
+            Err(ReplayError::Flawed(flaw)) => {
+                tell_flaw(rt, i, flaw)?;
                 return Ok(counts);
             }
+            Err(ReplayError::Io(_)) => unreachable!(),
         }
     }
     Ok(counts)

@@ -1,6 +1,6 @@
 //! Fixed vectors, read from words of eight bytes, and how many of them agree: what the programs
-//! that replay them share. Words are read from an input as they come; in `in_memory` they are in
-//! memory first.
+//! that replay them share. Words are read from an input as they come, and in `in_memory` from
+//! memory.
 #![tactic(auto)]
 
 ghost use Rattle.std.specs.Prelude.{◌≡◌, ◌<◌, ◌≤◌, ◌+◌, ◌^◌, ℕ, Bool, List, length, take, IfOk, IsSome, IfSome, if◌then◌else◌};

@@ -1,10 +1,10 @@
 -- A vector that is replayed is the first of those that are left, and is counted.
-use Rattle.std.proofs.Common.{arith, ◌≡◌, ◌+◌, ◌-◌, ap, ◌∙◌, suc, ℕ, Bool, Err}
+use Rattle.std.proofs.Common.{arith, ◌≡◌, ◌+◌, ◌-◌, ap, suc, ℕ, Bool, Err}
 use Rattle.std.specs.Prelude.{not}
 use Rattle.std.specs.List.{count_by}
 use Rattle.vectors.specs.Reading.{left_of}
 use Rattle.vectors.specs.Replaying.{agreements}
-use Rattle.vectors.proofs.Counting.{one_more, no_more, all_counted, one_agrees, one_differs, one_at_most}
+use Rattle.vectors.proofs.Counting.{no_more, all_counted, one_counted, one_at_most}
 use Rattle.vectors.proofs.replay_all.Goals as goal
 
 pub returns-in-Err : goal.returns-in-Err
@@ -29,17 +29,9 @@ loop-i-preserved g c =
       differ_bound = omega (arith, bound.1, c.loop-i.invariant.differ_bound, c.with-counts.ensures.differ);
       replayed = λ known.
           let was = c.loop-i.invariant.replayed known in
-          let told = c.in-Ok.ensures was.0 in
-          let rest = left_of (g.R.Read.remaining c.loop-i.input) in
-          let behind = left_of (g.R.Read.remaining c.replay.new.input) in
-          let last = agreements f (c.args.count - (c.loop-i.i + 1)) behind in
-          let more = one_more f (c.args.count - c.loop-i.i) (c.args.count - (c.loop-i.i + 1)) rest behind c.in-Ok.agrees left told.1 in
-          let agree = ap (count_by (λ (b : Bool). b)) more ∙ one_agrees c.in-Ok.agrees last in
-          let differ = ap (count_by not) more ∙ one_differs c.in-Ok.agrees last in (
+          let told = c.in-Ok.ensures was.0 in (
             told.0,
-            record {
-              agree = omega (arith, agree, was.1.agree, c.with-counts.ensures.agree);
-              differ = omega (arith, differ, was.1.differ, c.with-counts.ensures.differ);
-            },
+            one_counted f _ _ _ _ _ _ _ _ c.in-Ok.agrees left told.1
+                (omega (arith, c.with-counts.ensures.agree)) (omega (arith, c.with-counts.ensures.differ)) was.1,
           );
     }
